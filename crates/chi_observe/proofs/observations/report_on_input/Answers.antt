@@ -1,0 +1,9 @@
+-- The lines that were taken are those of the input.
+use Rattle.std.specs.Prelude.{string_bytes}
+use Rattle.chi_observe.proofs.ReportLemmas.{observed_of}
+use Rattle.chi_observe.proofs.observations.report_on_input.Goals as goal
+
+pub returns-in-Ok-clause-told : goal.returns-in-Ok-clause-told
+returns-in-Ok-clause-told g c =
+    let report = c.in-Ok.report in
+    observed_of c.args.options c.args.complete _ _ _ c.in_ok-stop.stop report.outcome (string_bytes report.text) c.new-watch.ensures c.in_ok-stop.ensures.told c.in-Ok.ensures.outcome c.in-Ok.ensures.text

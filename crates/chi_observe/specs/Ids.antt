@@ -1,0 +1,42 @@
+-- The ids that are open, each under its key: its sort, its home, its requester and its number (docs/OBSERVER.md, "Ids and
+-- credits").
+use Rattle.std.specs.Prelude.{ℕ, ◌==◌, ◌&&◌, Bool, List, Option, Some, None}
+use Rattle.std.specs.Map.{lookup}
+use Rattle.indexmap.specs.IndexMap.{insert_entry, swap_remove_entry}
+use Rattle.chi_observe.specs.declared.ids.CacheLine.{CacheLine}
+use Rattle.chi_observe.specs.declared.ids.IdKey.{IdKey}
+use Rattle.chi_observe.specs.declared.ids.IdKey.TheVariants.{Request, Buffer, Snoop, Retried}
+use Rattle.chi_observe.specs.declared.ids.KeyNumbers.{KeyNumbers}
+use Rattle.chi_observe.specs.declared.ids.OpenId.{OpenId}
+use Rattle.chi_observe.specs.declared.ids.Purpose.{Purpose}
+
+-- a key as numbers, by which a table finds what it names
+abbrev pub numbers_of : IdKey → KeyNumbers
+numbers_of (Request sides txn) = record { sort = 0; home = sides.home.0; requester = sides.requester.0; number = txn.0 }
+numbers_of (Buffer sides dbid) = record { sort = 1; home = sides.home.0; requester = sides.requester.0; number = dbid.0 }
+numbers_of (Snoop sides txn) = record { sort = 2; home = sides.home.0; requester = sides.requester.0; number = txn.0 }
+numbers_of (Retried sides line) = record { sort = 3; home = sides.home.0; requester = sides.requester.0; number = line.0 }
+
+abbrev pub is_same_numbers : KeyNumbers → KeyNumbers → Bool
+is_same_numbers one other = one.sort == other.sort && (one.home == other.home && (one.requester == other.requester && one.number == other.number))
+
+abbrev pub has_numbers_of : IdKey → KeyNumbers → Bool
+has_numbers_of key numbers = is_same_numbers (numbers_of key) numbers
+
+-- the open id of a key
+abbrev pub id_of : IdKey → List (KeyNumbers × OpenId) → Option OpenId
+id_of key ids = lookup (has_numbers_of key) ids
+
+-- an id that is opened
+abbrev pub opened_id : IdKey → CacheLine → Purpose → OpenId
+opened_id key line purpose = record { key = key; line = line; purpose = purpose; waits_for = None; lacks = None }
+
+-- the ids without that of a key, if one is free; the last takes its place
+abbrev pub without : Option IdKey → List (KeyNumbers × OpenId) → List (KeyNumbers × OpenId)
+without None ids = ids
+without (Some key) ids = swap_remove_entry (has_numbers_of key) ids
+
+-- the ids with another one under its key, if there is one
+abbrev pub with_id : Option OpenId → List (KeyNumbers × OpenId) → List (KeyNumbers × OpenId)
+with_id None ids = ids
+with_id (Some id) ids = insert_entry is_same_numbers ids (numbers_of id.key) id

@@ -1,0 +1,12 @@
+pub mod Reasons
+pub mod Ids
+pub mod Credits
+pub mod Steps
+pub mod Lines
+pub mod Events
+pub mod Nodes
+pub mod Watched
+pub mod Seen
+pub mod Streams
+pub mod Pending
+pub mod Reports

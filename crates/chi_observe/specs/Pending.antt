@@ -1,0 +1,39 @@
+-- What is open behind the flits of a trace (docs/OBSERVER.md, "What is printed").
+use Rattle.std.specs.Prelude.{ℕ, ◌&&◌, ◌||◌, Bool, false, not, nat_lt, Option, Some, None}
+use Rattle.std.specs.List.{list_any}
+use Rattle.std.specs.Map.{values_of}
+use Rattle.chi_flit.specs.declared.numbers.Agent.{Agent}
+use Rattle.chi_observe.specs.declared.credits.Account.{Account}
+use Rattle.chi_observe.specs.declared.ids.CacheLine.{CacheLine}
+use Rattle.chi_observe.specs.declared.ids.IdKey.{IdKey}
+use Rattle.chi_observe.specs.declared.ids.IdKey.TheVariants.{Retried}
+use Rattle.chi_observe.specs.declared.ids.OpenId.{OpenId}
+use Rattle.chi_observe.specs.Credits.{owed_of, unused_of}
+use Rattle.chi_observe.specs.Lines.{LineState}
+use Rattle.chi_observe.specs.Nodes.{agent_of}
+use Rattle.chi_observe.specs.Watched.{Watched}
+
+-- a request that was retried and is surely cancelled isn't open
+abbrev pub is_cancelled_at : LineState → Agent → Bool
+is_cancelled_at s agent = not s.aside && (s.told.seen.told agent.0).cancelled
+
+abbrev pub cancelled_at : Option Agent → Option LineState → Bool
+cancelled_at (Some agent) (Some s) = is_cancelled_at s agent
+cancelled_at agent s = false
+
+abbrev pub is_cancelled : Watched → IdKey → Bool
+is_cancelled w (Retried sides line) = cancelled_at (agent_of w.requesters w.homes sides) (w.lines line.0)
+is_cancelled w other = false
+
+abbrev pub has_open_id : Watched → Bool
+has_open_id w = list_any (λ id. not (is_cancelled w id.key)) (values_of w.ids)
+
+-- credits that are owed or unused
+abbrev pub is_account_open : Account → Bool
+is_account_open account = nat_lt 0 (owed_of account) || nat_lt 0 (unused_of account)
+
+abbrev pub has_open_account : Watched → Bool
+has_open_account w = list_any is_account_open (values_of w.accounts)
+
+abbrev pub is_open : Watched → Bool
+is_open w = has_open_id w || has_open_account w

@@ -1,0 +1,190 @@
+-- A watch over a trace: what its flits have told, and which flits it takes (docs/OBSERVER.md, "A trace of many lines").
+use Rattle.std.specs.Prelude.{◌≡◌, ℕ, ◌+◌, ◌==◌, ◌&&◌, ◌||◌, Bool, true, false, not, List, [], Option, Some, None, Result, Ok, Err, if◌then◌else◌, is_none, is_some, unwrap_or}
+use Rattle.chi_flit.specs.declared.numbers.Agent.{Agent}
+use Rattle.chi_trace.specs.declared.fields.NodeId.{NodeId}
+use Rattle.chi_trace.specs.declared.fields.PcrdType.{PcrdType}
+use Rattle.chi_observer.specs.declared.flits.Flit.{Flit}
+use Rattle.chi_observe.specs.declared.credits.Account.{Account}
+use Rattle.chi_observe.specs.declared.credits.AccountNumbers.{AccountNumbers}
+use Rattle.chi_observe.specs.declared.credits.Booking.{Booking}
+use Rattle.chi_observe.specs.declared.events.Event.{Event}
+use Rattle.chi_observe.specs.declared.events.Event.TheVariants as events
+use Rattle.chi_observe.specs.declared.events.LineEvent.{LineEvent}
+use Rattle.chi_observe.specs.declared.events.Tells.{Tells}
+use Rattle.chi_observe.specs.declared.events.Tells.TheVariants.{NoForm}
+use Rattle.chi_observe.specs.declared.ids.CacheLine.{CacheLine}
+use Rattle.chi_observe.specs.declared.ids.KeyNumbers.{KeyNumbers}
+use Rattle.chi_observe.specs.declared.ids.OpenId.{OpenId}
+use Rattle.chi_observe.specs.declared.ids.Sides.{Sides}
+use Rattle.chi_observe.specs.declared.reasons.IdReason.{IdReason}
+use Rattle.chi_observe.specs.declared.reasons.IdReason.TheVariants.{Form}
+use Rattle.chi_observe.specs.declared.reasons.LineReason.{LineReason}
+use Rattle.chi_observe.specs.declared.steps.Change.{Change}
+use Rattle.chi_observe.specs.declared.steps.WatchOptions.{WatchOptions}
+use Rattle.chi_observe.specs.declared.watch.Aside.{Aside}
+use Rattle.chi_observe.specs.declared.watch.Counts.{Counts}
+use Rattle.chi_observe.specs.declared.watch.Watch.{Watch}
+use Rattle.chi_observe.specs.declared.watch.WatchFault.{WatchFault}
+use Rattle.chi_observe.specs.declared.watch.WatchFault.TheVariants as faults
+use Rattle.chi_observe.specs.declared.watch.WatchStop.{WatchStop}
+use Rattle.chi_observe.specs.declared.watch.WatchStop.TheVariants as stops
+use Rattle.chi_observe.specs.Credits.{booked, booked_all}
+use Rattle.chi_observe.specs.Events.{flit_by}
+use Rattle.chi_observe.specs.Lines.{LineState, is_aside, is_line_reason, line_next, lines_in, put_line, state_at, takes_line}
+use Rattle.chi_observe.specs.Nodes.{agent_of, with_home, with_requester}
+use Rattle.chi_observe.specs.Steps.{Table, change_of, granted, ids_after, returned}
+
+-- its nodes, the ids that are open, the credits, what is known of each line, and counts
+pub record Watched : Type 0 where
+  pub options : WatchOptions
+  pub requesters : List NodeId
+  pub homes : List NodeId
+  pub ids : List (KeyNumbers × OpenId)
+  pub accounts : List (AccountNumbers × Account)
+  pub lines : ℕ → Option LineState
+  pub counts : Counts
+
+abbrev pub watched : {A : Type 0} → Watch A → Watched
+watched w = record {
+  options = w.options;
+  requesters = w.requesters.items;
+  homes = w.homes.items;
+  ids = w.ids.entries;
+  accounts = w.accounts.entries;
+  lines = lines_in w.lines.entries;
+  counts = w.counts;
+}
+
+-- no flit was seen
+abbrev pub nothing_counted : Counts
+nothing_counted = record { flits = 0; accesses = 0; lines = 0; aside = 0; first_aside = None }
+
+abbrev pub nothing_watched : WatchOptions → Watched
+nothing_watched options = record { options = options; requesters = []; homes = []; ids = []; accounts = []; lines = λ l. None; counts = nothing_counted }
+
+abbrev pub table_in : Watched → Table
+table_in w = record { ids = w.ids; accounts = w.accounts }
+
+-- what a flit does to ids and credits; a RESP that no flit of the opcode has is a fault
+abbrev pub formed : Tells → Result Change IdReason → Result Change IdReason
+formed (NoForm resp) change = Err (Form resp)
+formed tells change = change
+
+abbrev pub allowed : Watched → LineEvent → Result Change IdReason
+allowed w e = formed e.tells (change_of w.options (table_in w) e.sides e.step e.at)
+
+-- what it tells its line's observer
+abbrev pub agent_in : Watched → LineEvent → Option Agent
+agent_in w e = agent_of w.requesters w.homes e.sides
+
+abbrev pub flit_of : Watched → LineEvent → Option Flit
+flit_of w e = flit_by e.tells (agent_in w e)
+
+-- what it sets aside: a line that was judged so far
+abbrev pub mark_of : (ℕ → Option LineState) → CacheLine → Option Flit → ℕ → Option Aside
+mark_of lines line flit number = if is_some flit || is_aside (lines line.0) then None else Some (record { number = number; line = line })
+
+-- a flit more, which is the first of its line, or sets it aside
+abbrev pub counts_first : Bool → Counts → Counts
+counts_first fresh n = record n { flits = n.flits + 1; lines = if fresh then n.lines + 1 else n.lines }
+
+abbrev pub counts_aside : Option Aside → Counts → Counts
+counts_aside None n = n
+counts_aside (Some mark) n = record n { aside = n.aside + 1; first_aside = Some (unwrap_or n.first_aside mark) }
+
+abbrev pub counts_after : Option Aside → Bool → Counts → Counts
+counts_after aside fresh n = counts_aside aside (counts_first fresh n)
+
+-- a flit of a line that does this, and a further beat
+abbrev pub flit_after : Watched → LineEvent → Change → Watched
+flit_after w e change = record {
+  options = w.options;
+  requesters = with_requester (agent_in w e) e.sides.requester w.requesters;
+  homes = with_home (agent_in w e) e.sides.home w.homes;
+  ids = ids_after change w.ids;
+  accounts = booked_all change.books w.accounts;
+  lines = put_line change.line (line_next (state_at w.lines change.line e.sides.home) (flit_of w e)) w.lines;
+  counts = counts_after (mark_of w.lines change.line (flit_of w e) e.number) (is_none (w.lines change.line.0)) w.counts;
+}
+
+abbrev pub beat_after : Watched → Change → Watched
+beat_after w change = record w { ids = ids_after change w.ids }
+
+-- what follows a flit of a line, if its line takes it
+abbrev pub told_after : Watched → LineEvent → Change → Option Watched
+told_after w e change = if takes_line (state_at w.lines change.line e.sides.home) e.sides.home (flit_of w e) then Some (flit_after w e change) else None
+
+abbrev pub line_after : Watched → LineEvent → Result Change IdReason → Option Watched
+line_after w e (Ok change) = if change.further then Some (beat_after w change) else told_after w e change
+line_after w e (Err reason) = None
+
+abbrev pub booking_after : Watched → Booking → Watched
+booking_after w booking = record w { accounts = booked booking w.accounts; counts = record w.counts { flits = w.counts.flits + 1 } }
+
+abbrev pub credit_after : Watched → Result Booking IdReason → Option Watched
+credit_after w (Ok booking) = Some (booking_after w booking)
+credit_after w (Err reason) = None
+
+abbrev pub access_after : Watched → Watched
+access_after w = record w { counts = record w.counts { accesses = w.counts.accesses + 1 } }
+
+-- what follows the next line of a trace, if it is taken
+abbrev pub step : Watched → Event → Option Watched
+step w events.Access = Some (access_after w)
+step w (events.Granted sides pcrd) = credit_after w (granted w.options (table_in w) sides pcrd)
+step w (events.Returned sides pcrd) = credit_after w (returned (table_in w) sides pcrd)
+step w (events.Line e) = line_after w e (allowed w e)
+
+-- why it isn't
+abbrev pub IsFault : Watched → Event → WatchFault → Type 0
+IsFault w (events.Line e) (faults.Ids reason) = allowed w e ≡ Err reason
+IsFault w (events.Line e) (faults.Line reason) = (change : Change) × (allowed w e ≡ Ok change) × (is_line_reason (state_at w.lines change.line e.sides.home) e.sides.home (flit_of w e) reason ≡ true)
+IsFault w (events.Granted sides pcrd) (faults.Ids reason) = granted w.options (table_in w) sides pcrd ≡ Err reason
+IsFault w (events.Returned sides pcrd) (faults.Ids reason) = returned (table_in w) sides pcrd ≡ Err reason
+IsFault w e fault = ⊥
+
+-- what a flit of an agent leaves, but of its line
+abbrev pub settled : Watched → Sides → Change → Option Agent → Option Aside → Bool → Watched
+settled w sides change agent mark fresh = record {
+  options = w.options;
+  requesters = with_requester agent sides.requester w.requesters;
+  homes = with_home agent sides.home w.homes;
+  ids = ids_after change w.ids;
+  accounts = booked_all change.books w.accounts;
+  lines = w.lines;
+  counts = counts_after mark fresh w.counts;
+}
+
+-- a flit of a line that does this was taken, or its line refuses it and nothing has changed
+pub record IsLineRefused (old new : Watched) (e : LineEvent) (change : Change) (reason : LineReason) : Type 0 where
+  pub refused : line_after old e (Ok change) ≡ None
+  pub holds : is_line_reason (state_at old.lines change.line e.sides.home) e.sides.home (flit_of old e) reason ≡ true
+  pub kept : new ≡ old
+
+abbrev pub IsFlitWatched : {A : Type 0} → Watched → Watched → LineEvent → Change → Result A WatchStop → Type 0
+IsFlitWatched old new e change (Ok done) = line_after old e (Ok change) ≡ Some new
+IsFlitWatched old new e change (Err (stops.Fault (faults.Ids reason))) = ⊥
+IsFlitWatched old new e change (Err (stops.Fault (faults.Line reason))) = IsLineRefused old new e change reason
+IsFlitWatched old new e change (Err stops.NoMemory) = Unit {0}
+
+-- so of a credit
+pub record IsCreditRefused (old new : Watched) (booking : Result Booking IdReason) (reason : IdReason) : Type 0 where
+  pub refused : booking ≡ Err reason
+  pub kept : new ≡ old
+
+abbrev pub IsCreditWatched : {A : Type 0} → Watched → Watched → Result Booking IdReason → Result A WatchStop → Type 0
+IsCreditWatched old new booking (Ok done) = credit_after old booking ≡ Some new
+IsCreditWatched old new booking (Err (stops.Fault (faults.Ids reason))) = IsCreditRefused old new booking reason
+IsCreditWatched old new booking (Err (stops.Fault (faults.Line reason))) = ⊥
+IsCreditWatched old new booking (Err stops.NoMemory) = Unit {0}
+
+-- the watch takes it; or it doesn't, for a reason that holds, and nothing has changed; or memory ran out
+pub record IsUntaken (old new : Watched) (e : Event) (fault : WatchFault) : Type 0 where
+  pub untaken : step old e ≡ None
+  pub holds : IsFault old e fault
+  pub kept : new ≡ old
+
+abbrev pub IsWatched : {A : Type 0} → Watched → Watched → Event → Result A WatchStop → Type 0
+IsWatched old new e (Ok done) = step old e ≡ Some new
+IsWatched old new e (Err (stops.Fault fault)) = IsUntaken old new e fault
+IsWatched old new e (Err stops.NoMemory) = Unit {0}

@@ -1,0 +1,114 @@
+//! The ids that are open.
+
+ghost use Rattle.std.specs.Prelude.{◌≡◌};
+ghost use Rattle.chi_observe.specs.Ids.{id_of, numbers_of, opened_id};
+
+use chi_flit::{Kind, Snoop};
+use chi_trace::{DbId, NodeId, PcrdType, TxnId};
+use indexmap::IndexMap;
+use std::alloc::Allocator;
+use std::hash::{BuildHasherDefault, FoldHasher};
+
+/// A line of memory: an address divided by the 64 bytes of a line.
+/// Source: `docs/TRACES.md`, "Traces".
+#[derive(Clone, Copy, Debug, PartialEq, Eq)]
+pub struct CacheLine(pub u64);
+
+/// The two nodes that a flit is between.
+/// Source: `docs/OBSERVER.md`, "Ids and credits".
+#[derive(Clone, Copy, Debug, PartialEq, Eq)]
+pub struct Sides {
+    pub requester: NodeId,
+    pub home: NodeId,
+}
+
+/// What an open id is named by.
+/// Source: `docs/OBSERVER.md`, "Ids and credits".
+#[derive(Clone, Copy, Debug, PartialEq, Eq)]
+pub enum IdKey {
+    /// A request: from its flit to RetryAck, Comp, CompData or CompDBIDResp.
+    Request(Sides, TxnId),
+    /// What the home keeps for a request: from Comp_UC, CompData or CompDBIDResp to CompAck or CopyBackWrData.
+    Buffer(Sides, DbId),
+    /// A snoop: from its flit to SnpResp or SnpRespData.
+    Snoop(Sides, TxnId),
+    /// A request to the line that was retried: from its RetryAck to the requester's next request to the line.
+    Retried(Sides, CacheLine),
+}
+
+/// What an id is open for.
+/// Source: `docs/OBSERVER.md`, "Ids and credits".
+#[derive(Clone, Copy, Debug, PartialEq, Eq)]
+pub enum Purpose {
+    /// A request, whose flit has AllowRetry where it is the first.
+    Request { kind: Kind, first: bool },
+    /// A snoop.
+    Snoop(Snoop),
+}
+
+/// An id that is open.
+/// Source: `docs/OBSERVER.md`, "Ids and credits".
+#[derive(Clone, Copy, Debug, PartialEq, Eq)]
+pub struct OpenId {
+    pub key: IdKey,
+    pub line: CacheLine,
+    pub purpose: Purpose,
+    /// The type of credit that a retried request waits for.
+    pub waits_for: Option<PcrdType>,
+    /// Which words its data lacks, once a beat has come.
+    pub lacks: Option<[bool; 8]>,
+}
+
+/// A key as numbers, by which a table finds what it names.
+#[derive(Clone, Copy, PartialEq, Eq, Hash)]
+pub(crate) struct KeyNumbers {
+    /// Which sort of key it is.
+    sort: u8,
+    home: u16,
+    requester: u16,
+    number: u64,
+}
+
+/// The ids that are open, each under its key.
+pub(crate) type IdTable<A> = IndexMap<KeyNumbers, OpenId, BuildHasherDefault<FoldHasher>, A>;
+
+/// A key as numbers.
+pub(crate) fn numbers_of(key: IdKey) -> KeyNumbers
+    ensures { result ≡ numbers_of key }
+{
+    let (sort, sides, number) = match key {
+        IdKey::Request(sides, txn) => (0, sides, u64::from(txn.0)),
+        IdKey::Buffer(sides, dbid) => (1, sides, u64::from(dbid.0)),
+        IdKey::Snoop(sides, txn) => (2, sides, u64::from(txn.0)),
+        IdKey::Retried(sides, line) => (3, sides, line.0),
+    };
+    KeyNumbers {
+        sort,
+        home: sides.home.0,
+        requester: sides.requester.0,
+        number,
+    }
+}
+
+/// The open id that has this key.
+pub(crate) fn find_id<A: Allocator>(ids: &IdTable<A>, key: IdKey) -> Option<OpenId>
+    ensures { result ≡ id_of key ids.now.entries }
+{
+    match ids.get(&numbers_of(key)) {
+        Some(id) => Some(*id),
+        None => None,
+    }
+}
+
+/// An id that is opened.
+pub(crate) fn opened_id(key: IdKey, line: CacheLine, purpose: Purpose) -> OpenId
+    ensures { result ≡ opened_id key line purpose }
+{
+    OpenId {
+        key,
+        line,
+        purpose,
+        waits_for: None,
+        lacks: None,
+    }
+}

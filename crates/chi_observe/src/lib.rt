@@ -1,0 +1,31 @@
+//! A whole trace, judged line by line by observers: its ids and credits, and where it stands in its lines of memory.
+//!
+//! Source: `docs/OBSERVER.md`, "A trace of many lines".
+#![tactic(auto)]
+
+mod credits;
+mod events;
+mod ids;
+mod lines;
+mod names;
+mod nodes;
+mod observations;
+mod pending;
+mod reasons;
+mod reports;
+mod seen;
+mod steps;
+mod stream;
+mod texts;
+mod watch;
+
+pub use credits::{Account, CreditTypes};
+pub use events::{Event, LineEvent, Tells};
+pub use ids::{CacheLine, IdKey, OpenId, Purpose, Sides};
+pub use observations::observe;
+pub use reasons::{IdReason, LineReason};
+pub use reports::{ObserveOutcome, ObserveReport};
+pub use seen::{event_of, line_of};
+pub use steps::{IdStep, WatchOptions};
+pub use stream::{TextStop, TraceStop};
+pub use watch::{Aside, Counts, Watch, WatchFault, WatchStop};

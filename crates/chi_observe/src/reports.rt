@@ -1,0 +1,265 @@
+//! The report on a trace.
+
+ghost use Rattle.std.specs.Prelude.{◌≡◌, IfOk, Some, codes, string_bytes};
+ghost use Rattle.chi_observe.specs.Pending.{is_open};
+ghost use Rattle.chi_observe.specs.Reports.{BeginsWith, IsOutcomeOf, IsReportText, accepted_line, ended_outcome, is_nothing_seen, malformed_front, numbered};
+ghost use Rattle.chi_observe.specs.Watched.{watched};
+
+use crate::names::{LineName, NodeName, SeenName, requester_of};
+use crate::seen::event_of;
+use crate::stream::TextStop;
+use crate::watch::{Counts, Watch, WatchFault};
+use chi_trace::{Column, Seen, TraceFault};
+use std::alloc::{AllocError, Allocator};
+use std::fmt;
+use std::fmt::Write;
+
+/// What came of a trace.
+/// Source: `docs/OBSERVER.md`, "What is printed".
+#[derive(Clone, Copy, Debug, PartialEq, Eq)]
+pub enum ObserveOutcome {
+    /// Every flit is taken: so many.
+    Accepted(Counts),
+    /// Every flit is taken, and something is open at the end of a trace that is to be complete.
+    Incomplete(Counts),
+    /// The trace has no flit, load or store.
+    Nothing,
+    /// The flit of the line with this number is the first that isn't taken.
+    Faulty(usize),
+    /// The first line that is none of a trace.
+    Malformed(TraceFault),
+}
+
+/// What came of a trace, and what is told of it.
+/// Source: `docs/OBSERVER.md`, "What is printed".
+#[derive(Drop)]
+pub struct ObserveReport<A: Allocator> {
+    pub outcome: ObserveOutcome,
+    /// Lines for standard output; of a malformed trace one line, without its end, for standard error.
+    pub text: String<A>,
+}
+
+/// Whether neither a flit nor a load or a store was seen.
+fn is_nothing_seen(counts: Counts) -> bool
+    ensures { result ≡ is_nothing_seen counts }
+{
+    counts.flits == 0 && counts.accesses == 0
+}
+
+/// What comes of a trace whose flits are all taken.
+fn ended_outcome(complete: bool, is_open: bool, counts: Counts) -> ObserveOutcome
+    ensures { result ≡ ended_outcome complete is_open counts }
+{
+    if is_nothing_seen(counts) {
+        return ObserveOutcome::Nothing;
+    }
+    if complete && is_open {
+        ObserveOutcome::Incomplete(counts)
+    } else {
+        ObserveOutcome::Accepted(counts)
+    }
+}
+
+/// The text with this behind it.
+fn joined<A: Allocator>(front: String<A>, rest: &str) -> Result<String<A>, AllocError>
+    ensures { IfOk result (λ text. BeginsWith (string_bytes front) (string_bytes text)) }
+{
+    let mut text = front;
+    text.push_str(rest)?;
+    Ok(text)
+}
+
+/// The line on a trace whose flits are all taken.
+fn accepted_line<A: Allocator>(alloc: A, counts: Counts) -> Result<String<A>, AllocError>
+    ensures { IfOk result (λ text. string_bytes text ≡ accepted_line counts) }
+{
+    let (flits, lines) = (counts.flits, counts.lines);
+    let mut text = String::new(alloc);
+    writeln!(text, "accepted {flits} flits on {lines} lines")?;
+    Ok(text)
+}
+
+/// The line on a trace without a flit.
+fn nothing_line<A: Allocator>(alloc: A) -> Result<String<A>, AllocError>
+    ensures { IfOk result
+        (λ text. string_bytes text ≡ codes "no flit, load or store is in the trace\n") }
+{
+    let mut text = String::new(alloc);
+    writeln!(text, "no flit, load or store is in the trace")?;
+    Ok(text)
+}
+
+/// How the line on a flit that isn't taken begins.
+fn numbered<A: Allocator>(alloc: A, number: usize) -> Result<String<A>, AllocError>
+    ensures { IfOk result (λ text. string_bytes text ≡ numbered number) }
+{
+    let mut text = String::new(alloc);
+    write!(text, "line {number}: ")?;
+    Ok(text)
+}
+
+/// How the line on a line that is none begins.
+#[derive(Clone, Copy)]
+struct MalformedFront(TraceFault);
+
+impl fmt::Display for MalformedFront {
+    ghost output = { λ front. Some (malformed_front front.0) };
+
+    fn fmt<W: fmt::Write>(&self, f: &mut fmt::Formatter<W>) -> fmt::Result {
+        match self.0 {
+            TraceFault::NoMemory | TraceFault::TooLarge => write!(f, "chihome: "),
+            TraceFault::MissingNewline(line) => {
+                write!(f, "chihome: line {line}: missing newline")
+            }
+            TraceFault::FewWords(line) => {
+                write!(f, "chihome: line {line}: fewer than eleven words")
+            }
+            TraceFault::BadWord { line, column: _ } => write!(f, "chihome: line {line}: "),
+        }
+    }
+}
+
+/// The same as a text.
+fn malformed_front<A: Allocator>(alloc: A, fault: TraceFault) -> Result<String<A>, AllocError>
+    ensures { IfOk result (λ text. string_bytes text ≡ malformed_front fault) }
+{
+    let front = MalformedFront(fault);
+    let mut text = String::new(alloc);
+    write!(text, "{front}")?;
+    Ok(text)
+}
+
+/// What is expected in the column that is wrong.
+fn expected(fault: TraceFault) -> &'static str {
+    match fault {
+        TraceFault::BadWord { line: _, column } => match column {
+            Column::Channel => "CH: expected REQ, SNP, RSP, DAT or CPU",
+            Column::Source => "SRC: expected a hexadecimal number, ffff at most",
+            Column::Target => "TGT: expected a hexadecimal number, ffff at most",
+            Column::Txn => "TXN: expected a hexadecimal number, ffff at most",
+            Column::Opcode => "OPCODE: expected one of the channel",
+            Column::Address => "ADDR: expected a hexadecimal number of 64 bits",
+            Column::Resp => "RESP: expected a state, or a state with _PD",
+            Column::Dbid => "DBID: expected a hexadecimal number, ffff at most",
+            Column::AllowRetry => "AR: expected 0 or 1",
+            Column::Pcrd => "PCRD: expected a hexadecimal number, f at most",
+            Column::Data => "DATA: expected hexadecimal words",
+        },
+        TraceFault::NoMemory
+        | TraceFault::TooLarge
+        | TraceFault::MissingNewline(_)
+        | TraceFault::FewWords(_) => "",
+    }
+}
+
+impl<A: Allocator + Copy> Watch<A> {
+    /// What is told of a trace whose flits are all taken.
+    fn accepted_text(&self, alloc: A, counts: Counts) -> Result<String<A>, AllocError>
+        ensures { IfOk result (λ text. BeginsWith (accepted_line counts) (string_bytes text)) }
+    {
+        let front = accepted_line(alloc, counts)?;
+        let mut rest = String::new(alloc);
+        write_unjudged(&mut rest, counts)?;
+        self.write_open(&mut rest)?;
+        joined(front, &rest)
+    }
+
+    /// What is told of a flit that isn't taken.
+    fn faulty_text(&self, alloc: A, seen: &Seen, fault: WatchFault) -> Result<String<A>, AllocError>
+        ensures { IfOk result
+            (λ text. BeginsWith (numbered seen.now.line) (string_bytes text)) }
+    {
+        let front = numbered(alloc, seen.line)?;
+        let mut rest = String::new(alloc);
+        self.write_untaken(&mut rest, seen, fault)?;
+        joined(front, &rest)
+    }
+
+    /// Puts a flit, its line and why it isn't taken behind the text.
+    fn write_untaken(
+        &self,
+        text: &mut String<A>,
+        seen: &Seen,
+        fault: WatchFault,
+    ) -> Result<(), AllocError> {
+        let event = event_of(seen);
+        let (node, side) = requester_of(seen);
+        let (name, node) = (SeenName(seen), NodeName(node));
+        write!(text, "{name} {side} node {node}")?;
+        if let Some(line) = self.place_of(&event) {
+            let line = LineName(line);
+            write!(text, " at {line}")?;
+        }
+        write!(text, ": ")?;
+        self.write_fault(text, &event, fault)?;
+        writeln!(text, "")
+    }
+
+    /// What is told of a trace whose flits are all taken, and of which this came.
+    fn outcome_text(&self, alloc: A, outcome: ObserveOutcome) -> Result<String<A>, AllocError>
+        ensures { IfOk result (λ text. IsReportText outcome (string_bytes text)) }
+    {
+        match outcome {
+            ObserveOutcome::Accepted(counts) => self.accepted_text(alloc, counts),
+            ObserveOutcome::Incomplete(counts) => self.accepted_text(alloc, counts),
+            ObserveOutcome::Nothing => nothing_line(alloc),
+            ObserveOutcome::Faulty(_) | ObserveOutcome::Malformed(_) => Err(AllocError),
+        }
+    }
+
+    /// The report on a trace whose flits are all taken, or that stopped so.
+    pub(crate) fn report(
+        &self,
+        alloc: A,
+        complete: bool,
+        stop: &Option<TextStop>,
+    ) -> Result<ObserveReport<A>, AllocError>
+        ensures outcome { IfOk result
+            (λ report. IsOutcomeOf complete (watched self.now) stop.now report.outcome) }
+        ensures text { IfOk result
+            (λ report. IsReportText report.outcome (string_bytes report.text)) }
+    {
+        match stop {
+            None => {
+                let outcome = ended_outcome(complete, self.is_open(), self.counts);
+                let text = self.outcome_text(alloc, outcome)?;
+                Ok(ObserveReport { outcome, text })
+            }
+            Some(TextStop::Malformed(fault)) => {
+                let text = malformed_text(alloc, *fault)?;
+                let outcome = ObserveOutcome::Malformed(*fault);
+                Ok(ObserveReport { outcome, text })
+            }
+            Some(TextStop::Untaken(seen, fault)) => {
+                let text = self.faulty_text(alloc, seen, *fault)?;
+                let outcome = ObserveOutcome::Faulty(seen.line);
+                Ok(ObserveReport { outcome, text })
+            }
+            Some(TextStop::NoMemory) => Err(AllocError),
+        }
+    }
+}
+
+/// What is told of a line that is none.
+fn malformed_text<A: Allocator + Copy>(alloc: A, fault: TraceFault) -> Result<String<A>, AllocError>
+    ensures { IfOk result (λ text. BeginsWith (malformed_front fault) (string_bytes text)) }
+{
+    let front = malformed_front(alloc, fault)?;
+    joined(front, expected(fault))
+}
+
+/// Puts a line for what isn't judged behind the text: loads and stores, and lines that were set aside.
+fn write_unjudged<A: Allocator>(text: &mut String<A>, counts: Counts) -> Result<(), AllocError> {
+    let (accesses, aside) = (counts.accesses, counts.aside);
+    if accesses > 0 {
+        writeln!(text, "not judged: {accesses} loads and stores")?;
+    }
+    if let Some(first) = counts.first_aside {
+        let (line, number) = (LineName(first.line), first.number);
+        writeln!(
+            text,
+            "set aside: {aside} lines, the first at {line} by line {number}"
+        )?;
+    }
+    Ok(())
+}

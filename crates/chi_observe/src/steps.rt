@@ -1,0 +1,504 @@
+//! What each flit does to ids and credits.
+
+ghost use Rattle.std.specs.Prelude.{◌≡◌};
+ghost use Rattle.std.specs.List.{count_by};
+ghost use Rattle.chi_observe.specs.Ids.{opened_id};
+ghost use Rattle.chi_observe.specs.Steps.{acknowledged, again_of, attempt_of, attempts, beat_of, booking_of, change_of, completed, freed, granted, is_attempt, is_again, joined, joined_by, lacks_some, left_of, named, new_buffer, new_id, plain_change, read_data, retried, returned, right_type, snooped, table_of, waiting_of, lacking, early_of, is_word_again, attempted_kind};
+
+use crate::credits::{AccountTable, Booking, CreditEvent, CreditTypes, find_account};
+use crate::ids::{CacheLine, IdKey, IdTable, OpenId, Purpose, Sides, find_id, opened_id};
+use crate::reasons::IdReason;
+use chi_flit::{Kind, Snoop};
+use chi_trace::{DbId, PcrdType, TxnId};
+use std::alloc::Allocator;
+
+/// What a trace is taken for.
+/// Source: `docs/OBSERVER.md`, "Ids and credits".
+#[derive(Clone, Copy, Debug, PartialEq, Eq)]
+pub struct WatchOptions {
+    pub types: CreditTypes,
+    /// The monitors stand at the requesters, where a grant may come before its RetryAck.
+    pub early_grants: bool,
+}
+
+/// What a flit of a line is to ids and credits.
+/// Source: `docs/OBSERVER.md`, "Ids and credits".
+#[derive(Clone, Copy, Debug, PartialEq, Eq)]
+pub enum IdStep {
+    /// A request with AllowRetry.
+    Attempt(TxnId, Kind, CacheLine),
+    /// A request without it, which spends a credit.
+    Again(TxnId, Kind, CacheLine, PcrdType),
+    Snoop(TxnId, Snoop, CacheLine),
+    RetryAck(TxnId, PcrdType),
+    /// A completion without data, which opens a DBID or doesn't.
+    Complete(TxnId, Option<DbId>),
+    /// A beat of a read's data: which words it has.
+    ReadData(TxnId, DbId, [bool; 8]),
+    /// An answer without data.
+    Answer(TxnId),
+    /// A beat of an answer.
+    AnswerData(TxnId, [bool; 8]),
+    /// A CompAck.
+    Acknowledge(DbId),
+    /// A beat of write data.
+    WriteData(DbId, [bool; 8]),
+}
+
+/// What a flit of a line does to ids and credits.
+#[derive(Clone, Copy)]
+pub(crate) struct Change {
+    pub line: CacheLine,
+    /// The key of the id that it frees, where that is open.
+    pub frees: Option<IdKey>,
+    /// The id that stays open, with the words that its data lacks.
+    pub keeps: Option<OpenId>,
+    pub opens: Option<OpenId>,
+    pub books: Option<Booking>,
+    /// It is a further beat of data.
+    pub further: bool,
+}
+
+/// What is open.
+#[derive(Drop)]
+pub(crate) struct Tables<'a, A: Allocator> {
+    pub options: WatchOptions,
+    pub ids: &'a IdTable<A>,
+    pub accounts: &'a AccountTable<A>,
+}
+
+/// A flit that neither frees, opens nor books.
+fn plain_change(line: CacheLine) -> Change
+    ensures { result ≡ plain_change line }
+{
+    Change {
+        line,
+        frees: None,
+        keeps: None,
+        opens: None,
+        books: None,
+        further: false,
+    }
+}
+
+/// The named type, which is the wanted one, if that isn't open.
+fn right_type(named: PcrdType, wanted: Option<PcrdType>) -> Result<PcrdType, IdReason>
+    ensures { result ≡ right_type named wanted }
+{
+    match wanted {
+        Some(wanted) if wanted.0 != named.0 => Err(IdReason::OtherType { named, wanted }),
+        Some(_) | None => Ok(named),
+    }
+}
+
+/// Whether a beat has a word that doesn't lack.
+fn is_word_again(lacks: bool, there: bool) -> bool
+    ensures { result ≡ is_word_again lacks there }
+{
+    there && !lacks
+}
+
+/// Whether a beat has some word that doesn't lack.
+fn is_again(lacks: &[bool; 8], there: &[bool; 8]) -> bool
+    ensures { result ≡ is_again lacks.now there.now }
+{
+    let mut again = is_word_again(lacks[0], there[0]);
+    again |= is_word_again(lacks[1], there[1]);
+    again |= is_word_again(lacks[2], there[2]);
+    again |= is_word_again(lacks[3], there[3]);
+    again |= is_word_again(lacks[4], there[4]);
+    again |= is_word_again(lacks[5], there[5]);
+    again |= is_word_again(lacks[6], there[6]);
+    again |= is_word_again(lacks[7], there[7]);
+    again
+}
+
+/// Whether a word lacks behind a beat.
+fn lacking(lacks: bool, there: bool) -> bool
+    ensures { result ≡ lacking lacks there }
+{
+    lacks && !there
+}
+
+/// The words that lack behind a beat.
+fn left_of(lacks: &[bool; 8], there: &[bool; 8]) -> [bool; 8]
+    ensures { result ≡ left_of lacks.now there.now }
+{
+    [
+        lacking(lacks[0], there[0]),
+        lacking(lacks[1], there[1]),
+        lacking(lacks[2], there[2]),
+        lacking(lacks[3], there[3]),
+        lacking(lacks[4], there[4]),
+        lacking(lacks[5], there[5]),
+        lacking(lacks[6], there[6]),
+        lacking(lacks[7], there[7]),
+    ]
+}
+
+/// Whether some word lacks.
+fn lacks_some(left: &[bool; 8]) -> bool
+    ensures { result ≡ lacks_some left.now }
+{
+    left.iter().any(|lacks| *lacks)
+}
+
+/// The data of the id, of which these words lack then.
+fn joined_by(found: &OpenId, left: [bool; 8], further: bool) -> Change
+    ensures { result ≡ joined_by found.now left further }
+{
+    let line = found.line;
+    if lacks_some(&left) {
+        let keeps = OpenId {
+            lacks: Some(left),
+            ..*found
+        };
+        Change {
+            keeps: Some(keeps),
+            further,
+            ..plain_change(line)
+        }
+    } else {
+        Change {
+            frees: Some(found.key),
+            further,
+            ..plain_change(line)
+        }
+    }
+}
+
+/// The data of the id behind a beat of these words, of which these lacked before.
+fn joined(found: &OpenId, lacks: &[bool; 8], there: &[bool; 8], further: bool) -> Change
+    ensures { result ≡ joined found.now lacks.now there.now further }
+{
+    joined_by(found, left_of(lacks, there), further)
+}
+
+/// Whether the id is that of a first attempt between these nodes.
+fn is_attempt(id: &OpenId, sides: Sides) -> bool
+    ensures { result ≡ is_attempt sides id.now }
+{
+    match (id.key, id.purpose) {
+        (IdKey::Request(of, _), Purpose::Request { kind: _, first }) => {
+            first && (of.home.0 == sides.home.0 && of.requester.0 == sides.requester.0)
+        }
+        _ => false,
+    }
+}
+
+impl<A: Allocator> Tables<'_, A> {
+    /// The key, which no open id has.
+    fn new_id(&self, key: IdKey) -> Result<IdKey, IdReason>
+        ensures { result ≡ new_id (table_of self.now) key }
+    {
+        match find_id(self.ids, key) {
+            Some(_) => Err(IdReason::InUse(key)),
+            None => Ok(key),
+        }
+    }
+
+    /// The open id that a flit names, which is of the line that it names, if it names one.
+    fn named(&self, key: IdKey, at: Option<CacheLine>) -> Result<OpenId, IdReason>
+        ensures { result ≡ named (table_of self.now) key at }
+    {
+        let found = find_id(self.ids, key).ok_or(IdReason::NotOpen(key))?;
+        match at {
+            Some(named) if named.0 != found.line.0 => Err(IdReason::WrongAddress {
+                named,
+                line: found.line,
+            }),
+            Some(_) | None => Ok(found),
+        }
+    }
+
+    /// The open id that a flit without data frees.
+    fn freed(&self, key: IdKey, at: Option<CacheLine>) -> Result<OpenId, IdReason>
+        ensures { result ≡ freed (table_of self.now) key at }
+    {
+        let found = self.named(key, at)?;
+        match found.lacks {
+            Some(_) => Err(IdReason::Unfinished(key)),
+            None => Ok(found),
+        }
+    }
+
+    /// A request that is sent for the first time. One that was retried before is cancelled.
+    #[tactic(auto, unfolding(crate::specs::Steps::attempt_of))]
+    fn attempt(
+        &self,
+        sides: Sides,
+        txn: TxnId,
+        kind: Kind,
+        line: CacheLine,
+    ) -> Result<Change, IdReason>
+        ensures { result ≡ attempt_of (table_of self.now) sides txn kind line }
+    {
+        let key = self.new_id(IdKey::Request(sides, txn))?;
+        let purpose = Purpose::Request { kind, first: true };
+        Ok(Change {
+            frees: Some(IdKey::Retried(sides, line)),
+            opens: Some(opened_id(key, line, purpose)),
+            ..plain_change(line)
+        })
+    }
+
+    /// A request that is sent again: it takes a credit of the type that its RetryAck has named.
+    #[tactic(auto, unfolding(crate::specs::Steps::again_of))]
+    fn again(
+        &self,
+        sides: Sides,
+        txn: TxnId,
+        kind: Kind,
+        line: CacheLine,
+        pcrd: PcrdType,
+    ) -> Result<Change, IdReason>
+        ensures { result ≡ again_of (table_of self.now) sides txn kind line pcrd }
+    {
+        let key = self.new_id(IdKey::Request(sides, txn))?;
+        let old = IdKey::Retried(sides, line);
+        let waiting = find_id(self.ids, old).ok_or(IdReason::NotOpen(old))?;
+        let pcrd = right_type(pcrd, waiting.waits_for)?;
+        let booking = self.booking(sides, pcrd, CreditEvent::Resent);
+        if booking.account.unused() == 0 {
+            return Err(IdReason::NoCredit(sides, pcrd));
+        }
+        let purpose = Purpose::Request { kind, first: false };
+        Ok(Change {
+            frees: Some(old),
+            opens: Some(opened_id(key, line, purpose)),
+            books: Some(booking),
+            ..plain_change(line)
+        })
+    }
+
+    /// A snoop.
+    #[tactic(auto, unfolding(crate::specs::Steps::snooped))]
+    fn snoop(
+        &self,
+        sides: Sides,
+        txn: TxnId,
+        snoop: Snoop,
+        line: CacheLine,
+    ) -> Result<Change, IdReason>
+        ensures { result ≡ snooped (table_of self.now) sides txn snoop line }
+    {
+        let key = self.new_id(IdKey::Snoop(sides, txn))?;
+        Ok(Change {
+            opens: Some(opened_id(key, line, Purpose::Snoop(snoop))),
+            ..plain_change(line)
+        })
+    }
+
+    /// A RetryAck: the request waits for a credit of the type.
+    #[tactic(auto, unfolding(crate::specs::Steps::retried))]
+    fn retry(
+        &self,
+        sides: Sides,
+        txn: TxnId,
+        pcrd: PcrdType,
+        at: Option<CacheLine>,
+    ) -> Result<Change, IdReason>
+        ensures { result ≡ retried self.now.options (table_of self.now) sides txn pcrd at }
+    {
+        let key = IdKey::Request(sides, txn);
+        let found = self.freed(key, at)?;
+        let kind = attempt_of(&found).ok_or(IdReason::NotRetryable(key))?;
+        let pcrd = right_type(pcrd, self.options.types.wanted(kind))?;
+        Ok(Change {
+            frees: Some(key),
+            opens: Some(waiting_of(&found, sides, pcrd)),
+            books: Some(self.booking(sides, pcrd, CreditEvent::Retried)),
+            ..plain_change(found.line)
+        })
+    }
+
+    /// The DBID that a completion opens, if it opens one.
+    fn new_buffer(
+        &self,
+        sides: Sides,
+        found: &OpenId,
+        dbid: Option<DbId>,
+    ) -> Result<Option<OpenId>, IdReason>
+        ensures { result ≡ new_buffer (table_of self.now) sides found.now dbid }
+    {
+        match dbid {
+            Some(dbid) => {
+                let key = self.new_id(IdKey::Buffer(sides, dbid))?;
+                Ok(Some(opened_id(key, found.line, found.purpose)))
+            }
+            None => Ok(None),
+        }
+    }
+
+    /// A completion without data.
+    #[tactic(auto, unfolding(crate::specs::Steps::completed))]
+    fn complete(
+        &self,
+        sides: Sides,
+        txn: TxnId,
+        dbid: Option<DbId>,
+        at: Option<CacheLine>,
+    ) -> Result<Change, IdReason>
+        ensures { result ≡ completed (table_of self.now) sides txn dbid at }
+    {
+        let key = IdKey::Request(sides, txn);
+        let found = self.freed(key, at)?;
+        let opens = self.new_buffer(sides, &found, dbid)?;
+        Ok(Change {
+            frees: Some(key),
+            opens,
+            ..plain_change(found.line)
+        })
+    }
+
+    /// A flit that frees an id, and has no data.
+    fn acknowledge(&self, key: IdKey, at: Option<CacheLine>) -> Result<Change, IdReason>
+        ensures { result ≡ acknowledged (table_of self.now) key at }
+    {
+        let found = self.freed(key, at)?;
+        Ok(Change {
+            frees: Some(key),
+            ..plain_change(found.line)
+        })
+    }
+
+    /// A beat of data: it frees the id where no word lacks any more.
+    fn beat(&self, key: IdKey, there: &[bool; 8], at: Option<CacheLine>) -> Result<Change, IdReason>
+        ensures { result ≡ beat_of (table_of self.now) key there.now at }
+    {
+        let found = self.named(key, at)?;
+        match found.lacks {
+            None => Ok(joined(&found, &[true; 8], there, false)),
+            Some(lacks) => {
+                if is_again(&lacks, there) {
+                    return Err(IdReason::WordAgain(key));
+                }
+                Ok(joined(&found, &lacks, there, true))
+            }
+        }
+    }
+
+    /// A beat of a read's data: the first one opens the DBID.
+    #[tactic(auto, unfolding(crate::specs::Steps::read_data))]
+    fn read(
+        &self,
+        sides: Sides,
+        txn: TxnId,
+        dbid: DbId,
+        there: &[bool; 8],
+        at: Option<CacheLine>,
+    ) -> Result<Change, IdReason>
+        ensures { result ≡ read_data (table_of self.now) sides txn dbid there.now at }
+    {
+        let key = IdKey::Request(sides, txn);
+        let found = self.named(key, at)?;
+        let change = self.beat(key, there, at)?;
+        if change.further {
+            return Ok(change);
+        }
+        let opens = self.new_buffer(sides, &found, Some(dbid))?;
+        Ok(Change { opens, ..change })
+    }
+
+    /// One more in the account of the nodes and the type.
+    fn booking(&self, sides: Sides, pcrd: PcrdType, event: CreditEvent) -> Booking
+        ensures { result ≡ booking_of (table_of self.now) sides pcrd event }
+    {
+        Booking {
+            account: find_account(self.accounts, sides, pcrd),
+            event,
+        }
+    }
+
+    /// How many first attempts between the nodes are on their way.
+    fn attempts(&self, sides: Sides) -> usize
+        ensures { result ≡ attempts sides (table_of self.now).ids }
+    {
+        let ids = self.ids.values().as_slice();
+        ids.iter().filter(|id| is_attempt(id, sides)).count()
+    }
+
+    /// How many credits may be granted before their RetryAcks.
+    fn early(&self, sides: Sides) -> usize
+        ensures { result ≡ early_of self.now.options (table_of self.now) sides }
+    {
+        if self.options.early_grants {
+            self.attempts(sides)
+        } else {
+            0
+        }
+    }
+
+    /// A granted credit: of a retried request that waits for a grant, or with early grants of a first attempt.
+    pub(crate) fn grant(&self, sides: Sides, pcrd: PcrdType) -> Result<Booking, IdReason>
+        ensures { result ≡ granted self.now.options (table_of self.now) sides pcrd }
+    {
+        let early = self.early(sides) as u64;
+        let booking = self.booking(sides, pcrd, CreditEvent::Granted);
+        if booking.account.may_grant(early) {
+            Ok(booking)
+        } else {
+            Err(IdReason::NothingRetried(sides, pcrd))
+        }
+    }
+
+    /// A returned credit.
+    pub(crate) fn give_back(&self, sides: Sides, pcrd: PcrdType) -> Result<Booking, IdReason>
+        ensures { result ≡ returned (table_of self.now) sides pcrd }
+    {
+        let booking = self.booking(sides, pcrd, CreditEvent::Returned);
+        if booking.account.unused() == 0 {
+            Err(IdReason::NoCredit(sides, pcrd))
+        } else {
+            Ok(booking)
+        }
+    }
+
+    /// What a flit of a line does to ids and credits, or why they don't allow it. `at` is the line of its address, if it
+    /// has one.
+    pub(crate) fn change(
+        &self,
+        sides: Sides,
+        step: &IdStep,
+        at: Option<CacheLine>,
+    ) -> Result<Change, IdReason>
+        ensures { result ≡ change_of self.now.options (table_of self.now) sides step.now at }
+    {
+        match step {
+            IdStep::Attempt(txn, kind, line) => self.attempt(sides, *txn, *kind, *line),
+            IdStep::Again(txn, kind, line, pcrd) => self.again(sides, *txn, *kind, *line, *pcrd),
+            IdStep::Snoop(txn, snoop, line) => self.snoop(sides, *txn, *snoop, *line),
+            IdStep::RetryAck(txn, pcrd) => self.retry(sides, *txn, *pcrd, at),
+            IdStep::Complete(txn, dbid) => self.complete(sides, *txn, *dbid, at),
+            IdStep::ReadData(txn, dbid, there) => self.read(sides, *txn, *dbid, there, at),
+            IdStep::Answer(txn) => self.acknowledge(IdKey::Snoop(sides, *txn), at),
+            IdStep::AnswerData(txn, there) => self.beat(IdKey::Snoop(sides, *txn), there, at),
+            IdStep::Acknowledge(dbid) => self.acknowledge(IdKey::Buffer(sides, *dbid), at),
+            IdStep::WriteData(dbid, there) => self.beat(IdKey::Buffer(sides, *dbid), there, at),
+        }
+    }
+}
+
+/// The kind of a request with AllowRetry.
+fn attempt_of(found: &OpenId) -> Option<Kind>
+    ensures { result ≡ attempted_kind found.now.purpose }
+{
+    match found.purpose {
+        Purpose::Request { kind, first: true } => Some(kind),
+        Purpose::Request {
+            kind: _,
+            first: false,
+        }
+        | Purpose::Snoop(_) => None,
+    }
+}
+
+/// A request that waits for a credit of the type.
+fn waiting_of(found: &OpenId, sides: Sides, pcrd: PcrdType) -> OpenId
+    ensures { result ≡ waiting_of found.now sides pcrd }
+{
+    OpenId {
+        waits_for: Some(pcrd),
+        ..opened_id(IdKey::Retried(sides, found.line), found.line, found.purpose)
+    }
+}

@@ -1,0 +1,195 @@
+//! A trace that is read in pieces of any size.
+
+ghost use Rattle.std.specs.Prelude.{◌≡◌, ◌+◌, ◌^◌, ◌<◌, IfErr, OnOk, []};
+ghost use Rattle.chi_script.specs.Devices.{CountsFault};
+ghost use Rattle.chi_observe.specs.Streams.{AreLinesTaken, IsInputWatched, IsPieceTaken, IsSeenTaken, IsTextTaken, end_of};
+ghost use Rattle.chi_observe.specs.Watched.{watched};
+
+use crate::seen::event_of;
+use crate::watch::{Watch, WatchFault, WatchStop};
+use chi_script::{Failed, Input};
+use chi_script::{Fault, first_line};
+use chi_trace::{Seen, TraceFault, flit_in};
+use std::alloc::{AllocError, Allocator};
+
+/// Why a trace isn't accepted.
+/// Source: `docs/OBSERVER.md`, "A trace of many lines".
+#[derive(Clone, Copy, Debug, PartialEq, Eq)]
+pub enum TraceStop {
+    /// This line is none of a trace.
+    Malformed(TraceFault),
+    /// The flit of the line with this number isn't taken.
+    Untaken(usize),
+}
+
+/// Why a line of a trace didn't go on.
+#[derive(Clone, Copy, Debug, PartialEq, Eq)]
+pub enum TextStop {
+    /// It is none.
+    Malformed(TraceFault),
+    /// Its flit isn't taken, for this reason.
+    Untaken(Seen, WatchFault),
+    /// Memory ran out.
+    NoMemory,
+}
+
+/// What is held of a trace whose lines were taken so far.
+#[derive(Drop)]
+pub(crate) struct Stream<A: Allocator> {
+    /// The bytes behind the last line end.
+    pub held: Vec<u8, A>,
+    /// Room for the bytes that are held next.
+    pub spare: Vec<u8, A>,
+    /// The number of the next line.
+    pub number: usize,
+}
+
+/// The bytes behind the last line end, and the number of the line that they begin.
+#[derive(Clone, Copy)]
+pub(crate) struct Left<'a> {
+    pub rest: &'a [u8],
+    pub number: usize,
+}
+
+impl From<AllocError> for TextStop {
+    ghost use Rattle.chi_observe.specs.declared.stream.TextStop.TheVariants.{NoMemory};
+
+    ghost from_gives = { λ _ stop. stop ≡ NoMemory };
+
+    fn from(_lack: AllocError) -> TextStop {
+        TextStop::NoMemory
+    }
+}
+
+/// Takes a line, which is given without its line end and has this number.
+fn take_text<A: Allocator>(watch: &mut Watch<A>, line: &[u8], number: usize) -> Result<(), TextStop>
+    ensures { IsTextTaken (watched watch.old) (watched watch.new) number line.now result }
+{
+    match flit_in(line, number) {
+        Ok(Some(seen)) => take_seen(watch, seen),
+        Ok(None) => Ok(()),
+        Err(fault) => Err(TextStop::Malformed(fault)),
+    }
+}
+
+/// Takes a flit.
+fn take_seen<A: Allocator>(watch: &mut Watch<A>, seen: Seen) -> Result<(), TextStop>
+    ensures { IsSeenTaken (watched watch.old) (watched watch.new) seen result }
+{
+    match watch.take(&event_of(&seen)) {
+        Ok(()) => Ok(()),
+        Err(WatchStop::Fault(fault)) => Err(TextStop::Untaken(seen, fault)),
+        Err(WatchStop::NoMemory) => Err(TextStop::NoMemory),
+    }
+}
+
+/// Takes the lines of these bytes that a line end closes, whatever follows them.
+fn take_lines<'a, A: Allocator>(
+    watch: &mut Watch<A>,
+    bytes: &'a [u8],
+    number: usize,
+) -> Result<Left<'a>, TextStop>
+    ensures { AreLinesTaken (watched watch.old) (watched watch.new) number bytes.entry.now result }
+{
+    let mut rest = bytes;
+    let mut number = number;
+    while let Some((line, after)) = first_line(rest) {
+        if let Err(stop) = take_text(watch, line, number) {
+            return Err(stop);
+        }
+        rest = after;
+        number = match number.checked_add(1) {
+            Some(next) => next,
+            None => return Err(TextStop::NoMemory),
+        };
+    }
+    Ok(Left { rest, number })
+}
+
+impl<A: Allocator + Copy> Stream<A> {
+    /// A trace of which nothing was read.
+    fn new(alloc: A) -> Stream<A>
+        ensures held { result.held.items ≡ [] }
+        ensures number { result.number ≡ 1 }
+    {
+        Stream {
+            held: Vec::new(alloc),
+            spare: Vec::new(alloc),
+            number: 1,
+        }
+    }
+}
+
+/// Takes the next piece of a trace.
+fn take_piece<A: Allocator>(
+    watch: &mut Watch<A>,
+    stream: Stream<A>,
+    piece: &[u8],
+) -> Result<Stream<A>, TextStop>
+    ensures { IsPieceTaken (watched watch.old) (watched watch.new) stream piece.now result }
+{
+    let Stream {
+        mut held,
+        mut spare,
+        number,
+    } = stream;
+    held.extend_from_slice(piece)?;
+    let left = match take_lines(watch, &held, number) {
+        Ok(left) => left,
+        Err(stop) => return Err(stop),
+    };
+    spare.clear();
+    spare.extend_from_slice(left.rest)?;
+    let number = left.number;
+    Ok(Stream {
+        held: spare,
+        spare: held,
+        number,
+    })
+}
+
+/// What comes of a trace that has ended: nothing stands behind the last line end.
+fn ended<A: Allocator>(stream: &Stream<A>) -> Option<TextStop>
+    ensures { result ≡ end_of stream.now.held.items stream.now.number }
+{
+    if stream.held.is_empty() {
+        None
+    } else {
+        Some(TextStop::Malformed(TraceFault::MissingNewline(stream.number)))
+    }
+}
+
+/// How many bytes one read takes at most.
+const PIECE: usize = 4_096;
+
+/// Takes the lines of the trace that the input has, which is read in pieces: `None` where all are taken, else the first that
+/// isn't.
+///
+/// `Read` where the input failed, and its count of failures is one more then; `NoMemory` where memory ran out, and the
+/// count stays then, as it does where the trace has ended.
+pub(crate) fn watch_input<A: Allocator + Copy, I: Input>(
+    alloc: A,
+    input: &mut I,
+    watch: &mut Watch<A>,
+) -> Result<Option<TextStop>, Fault>
+    requires { I.failures input.old + 1 < 2 ^ 64 }
+    ensures told { IsInputWatched (I.left input.old) (watched watch.old) (watched watch.new) result }
+    ensures ok { OnOk result (I.failures input.new ≡ I.failures input.old) }
+    ensures err { IfErr result (CountsFault (I.failures input.old) (I.failures input.new)) }
+{
+    let mut stream = Stream::new(alloc);
+    let mut buffer = [0; PIECE];
+    'pieces: for _ in 0..u64::MAX {
+        let count = match input.read(&mut buffer) {
+            Ok(0) => return Ok(ended(&stream)),
+            Ok(count) => count,
+            Err(Failed) => return Err(Fault::Read),
+        };
+        stream = match take_piece(watch, stream, &buffer[..count]) {
+            Ok(stream) => stream,
+            Err(TextStop::NoMemory) => return Err(Fault::NoMemory),
+            Err(stop) => return Ok(Some(stop)),
+        };
+    }
+    Err(Fault::NoMemory)
+}

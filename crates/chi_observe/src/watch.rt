@@ -1,0 +1,362 @@
+//! A watch over a trace: what its flits so far have told, and whether the next one is taken.
+
+ghost use Rattle.std.specs.Prelude.{◌≡◌, IfSome, OnOk};
+ghost use Rattle.chi_observe.specs.declared.watch.WatchStop.TheVariants.{NoMemory};
+ghost use Rattle.chi_observe.specs.Ids.{with_id, without};
+ghost use Rattle.chi_observe.specs.Credits.{booked, booked_all};
+ghost use Rattle.chi_observe.specs.Lines.{lines_in};
+ghost use Rattle.chi_observe.specs.Steps.{granted, ids_after, returned};
+ghost use Rattle.chi_observe.specs.Watched.{IsCreditWatched, IsFlitWatched, IsWatched, access_after, allowed, booking_after, counts_after, counts_aside, counts_first, mark_of, nothing_watched, settled, table_in, watched};
+
+use crate::credits::{AccountTable, Booking, account_numbers};
+use crate::events::{Event, LineEvent, Tells, flit_by};
+use crate::ids::{CacheLine, IdKey, IdTable, OpenId, Sides, numbers_of};
+use crate::lines::{LineStop, LineTable, is_aside, tell};
+use crate::nodes::{add_home, add_requester, agent_of};
+use crate::reasons::{IdReason, LineReason};
+use crate::steps::{Change, Tables, WatchOptions};
+use chi_flit::Agent;
+use chi_observer::Flit;
+use chi_trace::{NodeId, PcrdType};
+use indexmap::IndexMap;
+use std::alloc::{AllocError, Allocator};
+
+/// A line that was set aside, and by which line of the trace.
+/// Source: `docs/OBSERVER.md`, "A trace of many lines".
+#[derive(Clone, Copy, Debug, PartialEq, Eq)]
+pub struct Aside {
+    /// The number of the trace's line, counted from 1.
+    pub number: usize,
+    pub line: CacheLine,
+}
+
+/// How much a watch has seen.
+/// Source: `docs/OBSERVER.md`, "A trace of many lines".
+#[derive(Clone, Copy, Debug, PartialEq, Eq)]
+pub struct Counts {
+    /// Flits, but for further beats.
+    pub flits: u64,
+    /// Loads and stores.
+    pub accesses: u64,
+    /// Lines that flits have touched.
+    pub lines: u64,
+    /// Lines that were set aside.
+    pub aside: u64,
+    /// The first of them.
+    pub first_aside: Option<Aside>,
+}
+
+/// What the flits so far have told.
+/// Source: `docs/OBSERVER.md`, "A trace of many lines".
+#[derive(Drop)]
+pub struct Watch<A: Allocator> {
+    pub(crate) options: WatchOptions,
+    pub(crate) requesters: Vec<NodeId, A>,
+    pub(crate) homes: Vec<NodeId, A>,
+    pub(crate) ids: IdTable<A>,
+    pub(crate) accounts: AccountTable<A>,
+    pub(crate) lines: LineTable<A>,
+    pub(crate) counts: Counts,
+}
+
+/// Why a flit isn't taken.
+/// Source: `docs/OBSERVER.md`, "Faults".
+#[derive(Clone, Copy, Debug, PartialEq, Eq)]
+pub enum WatchFault {
+    /// The ids or the credits don't allow it.
+    Ids(IdReason),
+    /// Its line doesn't take it.
+    Line(LineReason),
+}
+
+/// Why a watch didn't go on.
+/// Source: `docs/OBSERVER.md`, "Faults".
+#[derive(Clone, Copy, Debug, PartialEq, Eq)]
+pub enum WatchStop {
+    /// The flit isn't taken, and nothing has changed.
+    Fault(WatchFault),
+    /// Memory ran out: the watch is of no use any more.
+    NoMemory,
+}
+
+impl From<AllocError> for WatchStop {
+    ghost from_gives = { λ _ stop. stop ≡ NoMemory };
+
+    fn from(_lack: AllocError) -> WatchStop {
+        WatchStop::NoMemory
+    }
+}
+
+impl Counts {
+    /// The counts behind a flit, which is the first of its line or isn't; `None` where a number would pass 2^64.
+    fn with_first(self, fresh: bool) -> Option<Counts>
+        ensures { IfSome result (λ counts. counts ≡ counts_first fresh self) }
+    {
+        let flits = self.flits.checked_add(1)?;
+        let lines = if fresh {
+            self.lines.checked_add(1)?
+        } else {
+            self.lines
+        };
+        Some(Counts {
+            flits,
+            lines,
+            ..self
+        })
+    }
+
+    /// The counts behind a flit that sets a line aside, or doesn't; `None` where a number would pass 2^64.
+    fn with_aside(self, aside: Option<Aside>) -> Option<Counts>
+        ensures { IfSome result (λ counts. counts ≡ counts_aside aside self) }
+    {
+        match aside {
+            None => Some(self),
+            Some(mark) => {
+                let aside = self.aside.checked_add(1)?;
+                Some(Counts {
+                    aside,
+                    first_aside: Some(self.first_aside.unwrap_or(mark)),
+                    ..self
+                })
+            }
+        }
+    }
+
+    /// The counts behind a flit.
+    fn with_flit(self, aside: Option<Aside>, fresh: bool) -> Option<Counts>
+        ensures { IfSome result (λ counts. counts ≡ counts_after aside fresh self) }
+    {
+        let counts = self.with_first(fresh)?;
+        counts.with_aside(aside)
+    }
+}
+
+/// The line that a flit which isn't judged sets aside, if it isn't already.
+fn mark_of<A: Allocator>(
+    lines: &LineTable<A>,
+    line: CacheLine,
+    flit: Option<Flit>,
+    number: usize,
+) -> Option<Aside>
+    ensures { result ≡ mark_of (lines_in lines.now.entries) line flit number }
+{
+    if flit.is_some() || is_aside(lines, line) {
+        None
+    } else {
+        Some(Aside { number, line })
+    }
+}
+
+/// The account has one more.
+fn book<A: Allocator>(accounts: &mut AccountTable<A>, booking: &Booking) -> Result<(), AllocError>
+    ensures { OnOk result (accounts.new.entries ≡ booked booking.now accounts.old.entries) }
+{
+    let Some(account) = booking.account.with_event(booking.event) else {
+        return Err(AllocError);
+    };
+    let key = account_numbers(booking.account.sides, booking.account.pcrd);
+    let _ = accounts.insert(key, account)?;
+    Ok(())
+}
+
+/// The account has one more, if one is booked in.
+fn book_all<A: Allocator>(
+    accounts: &mut AccountTable<A>,
+    books: &Option<Booking>,
+) -> Result<(), AllocError>
+    ensures { OnOk result (accounts.new.entries ≡ booked_all books.now accounts.old.entries) }
+{
+    match books {
+        Some(booking) => book(accounts, booking),
+        None => Ok(()),
+    }
+}
+
+/// The id of the key is free, if one is.
+fn free_id<A: Allocator>(ids: &mut IdTable<A>, frees: Option<IdKey>)
+    ensures { ids.new.entries ≡ without frees ids.old.entries }
+{
+    if let Some(key) = frees {
+        let _ = ids.swap_remove(&numbers_of(key));
+    }
+}
+
+/// An id is open, if one is.
+fn open_id<A: Allocator>(ids: &mut IdTable<A>, opens: Option<OpenId>) -> Result<(), AllocError>
+    ensures { OnOk result (ids.new.entries ≡ with_id opens ids.old.entries) }
+{
+    if let Some(id) = opens {
+        let _ = ids.insert(numbers_of(id.key), id)?;
+    }
+    Ok(())
+}
+
+/// The ids behind a flit.
+fn change_ids<A: Allocator>(ids: &mut IdTable<A>, change: &Change) -> Result<(), AllocError>
+    ensures { OnOk result (ids.new.entries ≡ ids_after change.now ids.old.entries) }
+{
+    free_id(ids, change.frees);
+    open_id(ids, change.keeps)?;
+    open_id(ids, change.opens)
+}
+
+impl<A: Allocator + Copy> Watch<A> {
+    /// A watch that has seen no flit: no cache has a copy of a line, no request is open, and memory has any words.
+    /// Source: `docs/OBSERVER.md`, "A trace of many lines".
+    pub fn new(alloc: A, options: WatchOptions) -> Watch<A>
+        ensures { watched result ≡ nothing_watched options }
+    {
+        Watch {
+            options,
+            requesters: Vec::new(alloc),
+            homes: Vec::new(alloc),
+            ids: IndexMap::new(alloc),
+            accounts: IndexMap::new(alloc),
+            lines: IndexMap::new(alloc),
+            counts: Counts {
+                flits: 0,
+                accesses: 0,
+                lines: 0,
+                aside: 0,
+                first_aside: None,
+            },
+        }
+    }
+}
+
+impl<A: Allocator> Watch<A> {
+    /// What is open.
+    fn tables(&self) -> Tables<'_, A>
+        ensures options { result.options ≡ self.now.options }
+        ensures ids { result.ids.now.entries ≡ self.now.ids.entries }
+        ensures accounts { result.accounts.now.entries ≡ self.now.accounts.entries }
+    {
+        Tables {
+            options: self.options,
+            ids: &self.ids,
+            accounts: &self.accounts,
+        }
+    }
+
+    /// What a flit of a line does to ids and credits, or why they don't allow it.
+    fn allowed(&self, event: &LineEvent) -> Result<Change, IdReason>
+        ensures { result ≡ allowed (watched self.now) event.now }
+    {
+        match event.tells {
+            Tells::NoForm(resp) => Err(IdReason::Form(resp)),
+            Tells::Sent(_, _) | Tells::Given(_, _) | Tells::Unjudged => {
+                self.tables().change(event.sides, &event.step, event.at)
+            }
+        }
+    }
+
+    /// A load or a store is counted.
+    fn count_access(&mut self) -> Result<(), AllocError>
+        ensures { OnOk result (watched self.new ≡ access_after (watched self.old)) }
+    {
+        let Some(accesses) = self.counts.accesses.checked_add(1) else {
+            return Err(AllocError);
+        };
+        self.counts.accesses = accesses;
+        Ok(())
+    }
+
+    /// A flit that books this is counted.
+    fn keep_booking(&mut self, booking: &Booking) -> Result<(), AllocError>
+        ensures { OnOk result
+            (watched self.new ≡ booking_after (watched self.old) booking.now) }
+    {
+        let Some(flits) = self.counts.flits.checked_add(1) else {
+            return Err(AllocError);
+        };
+        book(&mut self.accounts, booking)?;
+        self.counts.flits = flits;
+        Ok(())
+    }
+
+    /// A credit is granted.
+    fn grant(&mut self, sides: Sides, pcrd: PcrdType) -> Result<(), WatchStop>
+        ensures { IsCreditWatched (watched self.old) (watched self.new)
+            (granted self.old.options (table_in (watched self.old)) sides pcrd) result }
+    {
+        match self.tables().grant(sides, pcrd) {
+            Ok(booking) => Ok(self.keep_booking(&booking)?),
+            Err(reason) => Err(WatchStop::Fault(WatchFault::Ids(reason))),
+        }
+    }
+
+    /// A credit is returned.
+    fn give_back(&mut self, sides: Sides, pcrd: PcrdType) -> Result<(), WatchStop>
+        ensures { IsCreditWatched (watched self.old) (watched self.new)
+            (returned (table_in (watched self.old)) sides pcrd) result }
+    {
+        match self.tables().give_back(sides, pcrd) {
+            Ok(booking) => Ok(self.keep_booking(&booking)?),
+            Err(reason) => Err(WatchStop::Fault(WatchFault::Ids(reason))),
+        }
+    }
+
+    /// What a flit of this agent that does this leaves, but of its line.
+    fn settle(
+        &mut self,
+        sides: Sides,
+        change: &Change,
+        agent: Option<Agent>,
+        mark: Option<Aside>,
+        fresh: bool,
+    ) -> Result<(), AllocError>
+        ensures { OnOk result
+            (watched self.new ≡ settled (watched self.old) sides change.now agent mark fresh) }
+    {
+        let Some(counts) = self.counts.with_flit(mark, fresh) else {
+            return Err(AllocError);
+        };
+        add_requester(&mut self.requesters, agent, sides.requester)?;
+        add_home(&mut self.homes, agent, sides.home)?;
+        change_ids(&mut self.ids, change)?;
+        book_all(&mut self.accounts, &change.books)?;
+        self.counts = counts;
+        Ok(())
+    }
+
+    /// Takes a flit of a line that ids and credits allow.
+    fn take_allowed(&mut self, event: &LineEvent, change: &Change) -> Result<(), WatchStop>
+        ensures { IsFlitWatched (watched self.old) (watched self.new) event.now change.now result }
+    {
+        if change.further {
+            return Ok(change_ids(&mut self.ids, change)?);
+        }
+        let agent = agent_of(&self.requesters, &self.homes, event.sides);
+        let flit = flit_by(event.tells, agent);
+        let mark = mark_of(&self.lines, change.line, flit, event.number);
+        match tell(&mut self.lines, change.line, event.sides.home, flit) {
+            Ok(fresh) => Ok(self.settle(event.sides, change, agent, mark, fresh)?),
+            Err(LineStop::Refused(reason)) => Err(WatchStop::Fault(WatchFault::Line(reason))),
+            Err(LineStop::NoMemory) => Err(WatchStop::NoMemory),
+        }
+    }
+
+    /// Takes a flit of a line.
+    fn take_line(&mut self, event: &LineEvent) -> Result<(), WatchStop>
+        ensures { IsWatched (watched self.old) (watched self.new) (Event.Line event.now) result }
+    {
+        match self.allowed(event) {
+            Ok(change) => self.take_allowed(event, &change),
+            Err(reason) => Err(WatchStop::Fault(WatchFault::Ids(reason))),
+        }
+    }
+
+    /// Takes what the next line of a trace is. `Ok` exactly where ids, credits and its line allow it. Else it is why they
+    /// don't, and nothing changes.
+    /// Source: `docs/OBSERVER.md`, "A trace of many lines".
+    pub fn take(&mut self, event: &Event) -> Result<(), WatchStop>
+        ensures { IsWatched (watched self.old) (watched self.new) event.now result }
+    {
+        match event {
+            Event::Access => Ok(self.count_access()?),
+            Event::Granted(sides, pcrd) => self.grant(*sides, *pcrd),
+            Event::Returned(sides, pcrd) => self.give_back(*sides, *pcrd),
+            Event::Line(event) => self.take_line(event),
+        }
+    }
+}

@@ -1,0 +1,45 @@
+//! Short traces, and what is told of them.
+
+use chi_script::{MemoryInput, MemoryOutput};
+use chi_observe::{CreditTypes, WatchOptions, observe};
+use chi_script::Fault;
+
+/// A read, and one flit of another that the home answers while the first holds the line alone.
+const TRACE: &[u8] = b"REQ 8 40 1 ReadShared 1040 - - 1 - -\n\
+    DAT 40 8 1 CompData - UC 11 - - 0,0,0,0,0,0,0,0\n\
+    RSP 8 40 11 CompAck - - - - - -\n\
+    REQ 9 40 2 ReadShared 1040 - - 1 - -\n\
+    DAT 40 9 2 CompData - SC 12 - - 0,0,0,0,0,0,0,0\n";
+
+/// The first line of what is told of it.
+const TOLD: &[u8] =
+    b"line 5: CompData_SC to node 9 at 1040: the copy of node 8 was last told to be UC; ";
+
+const OPTIONS: WatchOptions = WatchOptions {
+    types: CreditTypes::Any,
+    early_grants: false,
+};
+
+#[test]
+fn the_first_flit_that_is_not_taken_is_told(rt: HostRuntime) {
+    let mut input = MemoryInput::new(TRACE, u64::MAX);
+    let mut output = MemoryOutput::new(rt.alloc(), 4096);
+    let done = observe(rt.alloc(), &mut input, &mut output, OPTIONS, false).is_ok();
+    assert!(rt; done && output.bytes().starts_with(TOLD));
+}
+
+#[test]
+fn an_input_that_fails_is_told_so(rt: HostRuntime) {
+    let mut input = MemoryInput::new(TRACE, 1);
+    let mut output = MemoryOutput::new(rt.alloc(), 4096);
+    let done = observe(rt.alloc(), &mut input, &mut output, OPTIONS, false);
+    assert!(rt; matches!(done, Err(Fault::Read)) && output.bytes().is_empty());
+}
+
+#[test]
+fn an_output_that_fails_is_told_so(rt: HostRuntime) {
+    let mut input = MemoryInput::new(TRACE, u64::MAX);
+    let mut output = MemoryOutput::new(rt.alloc(), 4);
+    let done = observe(rt.alloc(), &mut input, &mut output, OPTIONS, false);
+    assert!(rt; matches!(done, Err(Fault::Write)) && output.bytes() == b"line".as_slice());
+}
