@@ -9,8 +9,7 @@ use crate::reports::{ObserveOutcome, ObserveReport};
 use crate::steps::WatchOptions;
 use crate::stream::watch_input;
 use crate::watch::Watch;
-use chi_script::{Failed, Input, Output};
-use chi_script::Fault;
+use chi_script::{Failed, Fault, Input, Output};
 use std::alloc::Allocator;
 
 /// The report on the trace that the input has; `Read` where reading it failed.

@@ -7,8 +7,7 @@ ghost use Rattle.chi_observe.specs.Watched.{watched};
 
 use crate::seen::event_of;
 use crate::watch::{Watch, WatchFault, WatchStop};
-use chi_script::{Failed, Input};
-use chi_script::{Fault, first_line};
+use chi_script::{Failed, Fault, Input, first_line};
 use chi_trace::{Seen, TraceFault, flit_in};
 use std::alloc::{AllocError, Allocator};
 
