@@ -1,4 +1,4 @@
--- Moments at which no other copy was dirty, as the observer keeps them (docs/OBSERVER.md, "Moments").
+-- Moments at which no other copy was dirty, as the observer keeps them (docs/OBSERVER.md, "Flits of the home").
 use Rattle.std.specs.Prelude.{ℕ, Bool, false, ◌&&◌, ◌||◌, ◌==◌, not}
 use Rattle.chi_observer.specs.declared.flits.HomeFlit.{HomeFlit}
 use Rattle.chi_observer.specs.declared.flits.Flit.{Flit}
