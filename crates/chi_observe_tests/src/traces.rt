@@ -29,7 +29,7 @@ fn the_first_flit_that_is_not_taken_is_told(rt: HostRuntime) {
 
 #[test]
 fn an_input_that_fails_is_told_so(rt: HostRuntime) {
-    let mut input = MemoryInput::new(TRACE, 1);
+    let mut input = MemoryInput::new(TRACE, 0);
     let mut output = MemoryOutput::new(rt.alloc(), 4096);
     let done = observe(rt.alloc(), &mut input, &mut output, OPTIONS, false);
     assert!(rt; matches!(done, Err(Fault::Read)) && output.bytes().is_empty());
