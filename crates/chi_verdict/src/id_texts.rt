@@ -71,8 +71,7 @@ impl ReasonText<'_> {
     /// What the reason rests on.
     fn basis(&self) -> Basis {
         match self.reason {
-            IdReason::Lacks(_)
-            | IdReason::Form(_)
+            IdReason::Form(_)
             | IdReason::NinthRequester(_)
             | IdReason::BothSides(_)
             | IdReason::SecondHome(_)
