@@ -4,3 +4,4 @@ pub mod Endings
 pub mod Looks
 pub mod Stops
 pub mod Suites
+pub mod Watches
