@@ -12,11 +12,11 @@ use Rattle.chi_flit.specs.declared.numbers.Line.{Line}
 use Rattle.chi_resolution.specs.declared.ledger.Types.{Types}
 use Rattle.chi_script.specs.Words.{◌>>=◌}
 use Rattle.chi_trace.specs.declared.fields.Address.{Address}
-use Rattle.chi_program.specs.Options.{asked_address_of, commands_option, form_option, is_given, least_option, line_option, rows_option, seed_of, stores_option, turns_of, types_option, wild_option}
+use Rattle.chi_program.specs.Options.{asked_address_of, commands_option, form_option, is_given, least_option, line_option, rows_option, seed_of, stores_option, turns_of, types_option, watched_types_option, wild_option}
 use Rattle.chi_program.specs.declared.faults.ArgFault.{ArgFault}
 use Rattle.chi_program.specs.declared.faults.ArgFault.TheVariants.{Bad, NoMemory}
 use Rattle.chi_program.specs.declared.jobs.Job.{Job}
-use Rattle.chi_program.specs.declared.jobs.Job.TheVariants.{Chart, Check, Cover, Draw, Explain, Replay, Storm, Usage, Version}
+use Rattle.chi_program.specs.declared.jobs.Job.TheVariants.{Chart, Check, Cover, Draw, Explain, Observe, Replay, Storm, Usage, Version}
 use Rattle.chi_program.specs.declared.options.CellForm.{CellForm}
 use Rattle.chi_program.specs.declared.options.RowRange.{RowRange}
 use Rattle.chi_program.specs.declared.usages.Topic.{Topic}
@@ -62,6 +62,10 @@ chart_line = with_rule (with_rule (with_rule (new_app (codes "chart")) file_rule
 abbrev pub explain_line : App
 explain_line = with_rule (with_rule (with_rule (with_rule (with_rule (with_rule (new_app (codes "explain")) file_rule) (option_rule (codes "types"))) (option_rule (codes "stores"))) (flag_rule (codes "early-grants"))) (flag_rule (codes "complete"))) (option_rule (codes "line"))
 
+-- `observe FILE [--types T] [--early-grants] [--complete]`
+abbrev pub observe_line : App
+observe_line = with_rule (with_rule (with_rule (with_rule (new_app (codes "observe")) file_rule) (option_rule (codes "types"))) (flag_rule (codes "early-grants"))) (flag_rule (codes "complete"))
+
 -- `storm FILE [--seed N] [--turns N]`
 abbrev pub storm_line : App
 storm_line = with_rule (with_rule (with_rule (new_app (codes "storm")) file_rule) (option_rule (codes "seed"))) (option_rule (codes "turns"))
@@ -91,17 +95,18 @@ pub record IsCommand (app : App) (command : Command) : Type 0 where
 abbrev pub program_line : App
 program_line = on_top (λ s. record s { subcommand_required = true }) (new_app (codes "chihome"))
 
--- the program's command lines: these nine, and no other
+-- the program's command lines: these ten, and no other
 abbrev pub lines_to_storm : App
 lines_to_storm =
-    with_subcommand (with_subcommand (with_subcommand (with_subcommand (with_subcommand program_line replay_line.top) check_line.top) chart_line.top) explain_line.top) storm_line.top
+    with_subcommand (with_subcommand (with_subcommand (with_subcommand (with_subcommand (with_subcommand program_line replay_line.top) check_line.top) chart_line.top) explain_line.top) observe_line.top) storm_line.top
 
 abbrev pub command_lines : App
 command_lines = with_subcommand (with_subcommand (with_subcommand (with_subcommand lines_to_storm cover_line.top) draw_line.top) usage_line.top) version_line.top
 
 -- what a command line asks for: the replay of a file, the check of files, as TAP or not, a chart, of one line alone where one is
 -- given, and of these rows, the explanation of a trace, with its types of credit, the stores that it lists, whether grants may come early,
--- whether nothing may be open at its end, and the one line that is written where one is given, a storm with its seed and its turns, the cells that files reach, or those alone that they don't,
+-- whether nothing may be open at its end, and the one line that is written where one is given, the judgement of a trace, with its types of credit, whether grants may come early,
+-- and whether nothing may be open at its end, a storm with its seed and its turns, the cells that files reach, or those alone that they don't,
 -- in this form, of reports or not, and how many of them at least, how commands are used, the version, or a check file with this header that is drawn, by its seed, the number of its commands, how many in a hundred are drawn from all, the
 -- file of weights where one is given, the list of kinds where one is given, and whether it goes on until nothing is in flight
 pub data AskedCommand : Type 0 where
@@ -109,6 +114,7 @@ pub data AskedCommand : Type 0 where
   check : List Text → Bool → AskedCommand
   chart : Text → Option Line → RowRange → AskedCommand
   explain : Text → Types → StoreListing → (early complete : Bool) → Option Address → AskedCommand
+  observe : Text → Types → (early complete : Bool) → AskedCommand
   storm : Text → ℕ → ℕ → AskedCommand
   cover : List Text → (missing : Bool) → CellForm → (merge : Bool) → (least : ℕ) → AskedCommand
   draw : Text → ℕ → ℕ → ℕ → (weights kinds : Option Text) → Bool → AskedCommand
@@ -139,6 +145,13 @@ explain_in rows = do
   stores ← stores_option (first_of (codes "stores") rows)
   only ← asked_address_of (first_of (codes "line") rows)
   Some (explain path types stores (is_given (first_of (codes "early-grants") rows)) (is_given (first_of (codes "complete") rows)) only)
+
+-- behind `observe` stand the path and the options
+abbrev pub observe_in : List Row → Option AskedCommand
+observe_in rows = do
+  path ← first_of (codes "FILE") rows
+  types ← watched_types_option (first_of (codes "types") rows)
+  Some (observe path types (is_given (first_of (codes "early-grants") rows)) (is_given (first_of (codes "complete") rows)))
 
 -- behind `storm` stand the path and the options
 abbrev pub storm_asked : List Row → Option AskedCommand
@@ -179,11 +192,12 @@ asked_behind (name, rows) =
     if bytes_eq name (codes "check") then check_in rows else (
     if bytes_eq name (codes "chart") then chart_in rows else (
     if bytes_eq name (codes "explain") then explain_in rows else (
+    if bytes_eq name (codes "observe") then observe_in rows else (
     if bytes_eq name (codes "storm") then storm_asked rows else (
     if bytes_eq name (codes "cover") then cover_in rows else (
     if bytes_eq name (codes "draw") then draw_in rows else (
     if bytes_eq name (codes "usage") then usage_in rows else (
-    if bytes_eq name (codes "version") then version_in rows else None))))))))
+    if bytes_eq name (codes "version") then version_in rows else None)))))))))
 
 -- the same, where the words have no fault
 abbrev pub asked_if : Kinds → Option (Text × List Row) → Option AskedCommand
@@ -200,6 +214,7 @@ asked_by (Replay path) = replay path.now
 asked_by (Check paths tap) = check (map (λ path. path.now) paths.items) tap
 asked_by (Chart path only rows) = chart path.now only rows
 asked_by (Explain path types stores early complete only) = explain path.now types stores early complete only
+asked_by (Observe path types early complete) = observe path.now types early complete
 asked_by (Storm path seed turns) = storm path.now seed turns
 asked_by (Cover paths missing form merge least) = cover (map (λ path. path.now) paths.items) missing form merge least
 asked_by (Draw header seed commands wild weights kinds drain) =

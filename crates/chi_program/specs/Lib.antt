@@ -8,3 +8,4 @@ pub mod Faults
 pub mod Options
 pub mod Usage
 pub mod CommandLines
+pub mod Watches

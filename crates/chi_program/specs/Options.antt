@@ -60,6 +60,11 @@ types_option (Some word) =
     if is_text word (codes "four") then Some Four else (
     if is_text word (codes "any") then Some Any else None))
 
+-- the same of a trace that is observed, and any where none are given
+abbrev pub watched_types_option : Option (List ℕ) → Option Types
+watched_types_option None = Some Any
+watched_types_option (Some word) = types_option (Some word)
+
 -- which stores a trace lists, and some or none where nothing is given
 abbrev pub stores_option : Option (List ℕ) → Option StoreListing
 stores_option None = Some Partial

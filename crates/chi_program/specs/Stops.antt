@@ -12,6 +12,8 @@ use Rattle.chi_program.specs.declared.program.End.{End}
 use Rattle.chi_program.specs.declared.program.End.TheVariants as ends
 use Rattle.chi_program.specs.declared.program.Stop.{Stop}
 use Rattle.chi_program.specs.declared.program.Stop.TheVariants.{Arguments, Run}
+use Rattle.chi_observe.specs.declared.reports.ObserveOutcome.{ObserveOutcome}
+use Rattle.chi_observe.specs.declared.reports.ObserveOutcome.TheVariants as observed
 use Rattle.chi_verdict.specs.declared.reports.TraceOutcome.{TraceOutcome}
 use Rattle.chi_verdict.specs.declared.reports.TraceOutcome.TheVariants as outcomes
 
@@ -67,6 +69,14 @@ explain_end outcomes.Nothing = ends.Nothing
 explain_end (outcomes.Faulty stop) = ends.Unexplained
 explain_end (outcomes.Malformed fault) = ends.Malformed
 
+-- the end of a trace of which this came
+abbrev pub observe_end : ObserveOutcome → End
+observe_end (observed.Accepted counts) = ends.Done
+observe_end (observed.Incomplete counts) = ends.Incomplete
+observe_end observed.Nothing = ends.Nothing
+observe_end (observed.Faulty line) = ends.Unexplained
+observe_end (observed.Malformed fault) = ends.Malformed
+
 -- the end of a storm of which all scripts finished, or not
 abbrev pub storm_end : Bool → End
 storm_end true = ends.Done
@@ -84,7 +94,7 @@ run_status (Err stop) = stop_status stop
 
 -- the statuses that the program can end with: all went well, a faulty file or a device that failed, a script that
 -- didn't finish or a file that wasn't drawn, want of memory, bad arguments, an answer that differs, a flit that isn't
--- explained, something open at the end of a trace, nothing that was compared or shown, and fewer cells than asked for
+-- explained or taken, something open at the end of a trace, nothing that was compared or shown, and fewer cells than asked for
 abbrev pub statuses : List ℕ
 statuses = 0 ∷ 1 ∷ 2 ∷ 3 ∷ 4 ∷ 5 ∷ 6 ∷ 7 ∷ 8 ∷ 9 ∷ []
 

@@ -2,7 +2,7 @@
 use Rattle.std.specs.Prelude.{ℕ, List, ◌++◌, Option, Some, None, codes, if◌then◌else◌}
 use Rattle.chi_script.specs.Words.{is_text}
 use Rattle.chi_program.specs.declared.usages.Topic.{Topic}
-use Rattle.chi_program.specs.declared.usages.Topic.TheVariants.{All, Replay, Check, Chart, Storm, Explain, Cover, Draw, Usage, Version}
+use Rattle.chi_program.specs.declared.usages.Topic.TheVariants.{All, Replay, Check, Chart, Storm, Explain, Observe, Cover, Draw, Usage, Version}
 
 -- the commands by their names
 unfoldable pub topic_named : List ℕ → Option Topic
@@ -12,10 +12,11 @@ topic_named word =
     if is_text word (codes "chart") then Some Chart else (
     if is_text word (codes "storm") then Some Storm else (
     if is_text word (codes "explain") then Some Explain else (
+    if is_text word (codes "observe") then Some Observe else (
     if is_text word (codes "cover") then Some Cover else (
     if is_text word (codes "draw") then Some Draw else (
     if is_text word (codes "usage") then Some Usage else (
-    if is_text word (codes "version") then Some Version else None))))))))
+    if is_text word (codes "version") then Some Version else None)))))))))
 
 -- the word behind `usage` is such a name; where there is none all are asked about
 abbrev pub topic_option : Option (List ℕ) → Option Topic
@@ -58,6 +59,14 @@ explain_lines =
     ++ (codes "  --complete           nothing may be open at its end\n"
     ++ codes "  --line ADDR          writes the explanation of the line at ADDR as a check file\n")))))
 
+unfoldable pub observe_lines : List ℕ
+observe_lines =
+    codes "chihome observe FILE [--types two|four|any] [--early-grants] [--complete]\n"
+    ++ (codes "Judges a trace, whatever its home and its caches are.\n"
+    ++ (codes "  --types T            its types of credit; any where it isn't given\n"
+    ++ (codes "  --early-grants       a grant may come before its RetryAck\n"
+    ++ codes "  --complete           nothing may be open at its end\n")))
+
 unfoldable pub cover_lines : List ℕ
 cover_lines =
     codes "chihome cover FILE.. [--missing] [--json] [--tsv] [--merge] [--at-least N]\n"
@@ -97,10 +106,11 @@ all_lines =
     ++ (codes "chihome chart FILE [--line L] [--rows A-B]\n"
     ++ (codes "chihome storm FILE [--seed N] [--turns N]\n"
     ++ (codes "chihome explain FILE [--types two|four|any] [--stores hidden|listed] [--early-grants] [--complete] [--line ADDR]\n"
+    ++ (codes "chihome observe FILE [--types two|four|any] [--early-grants] [--complete]\n"
     ++ (codes "chihome cover FILE.. [--missing] [--json] [--tsv] [--merge] [--at-least N]\n"
     ++ (codes "chihome draw [--seed N] --commands M [--wild P] [--weights FILE] [--kinds LIST] [--drain] HEADER\n"
     ++ (codes "chihome usage [COMMAND]\n"
-    ++ codes "chihome version\n")))))))
+    ++ codes "chihome version\n"))))))))
 
 -- what is told of a topic
 abbrev pub usage_text : Topic → List ℕ
@@ -110,6 +120,7 @@ usage_text Check = check_lines
 usage_text Chart = chart_lines
 usage_text Storm = storm_lines
 usage_text Explain = explain_lines
+usage_text Observe = observe_lines
 usage_text Cover = cover_lines
 usage_text Draw = draw_lines
 usage_text Usage = usage_lines

@@ -3,12 +3,12 @@
 ghost use Rattle.std.specs.Prelude.{◌≡◌, IfOk, false, map};
 ghost use Rattle.std.specs.Option.{option_and_then, option_map};
 ghost use Rattle.clap.specs.Words.{all_of, app_of, first_of, found_of, rows_of, rule_of, subcommand_rows_of};
-ghost use Rattle.chi_program.specs.CommandLines.{IsAsked, IsCommand, asked_behind, asked_by, asked_in, chart_in, chart_line, check_in, check_line, command_lines, cover_in, cover_line, draw_in, draw_line, explain_in, explain_line, file_rule, files_rule, flag_rule, header_rule, option_rule, program_line, replay_in, replay_line, storm_asked, storm_line, topic_rule, usage_in, usage_line, version_in, version_line};
+ghost use Rattle.chi_program.specs.CommandLines.{IsAsked, IsCommand, asked_behind, asked_by, asked_in, chart_in, chart_line, check_in, check_line, command_lines, cover_in, cover_line, draw_in, draw_line, explain_in, explain_line, file_rule, files_rule, flag_rule, header_rule, observe_in, observe_line, option_rule, program_line, replay_in, replay_line, storm_asked, storm_line, topic_rule, usage_in, usage_line, version_in, version_line};
 
 use crate::faults::ArgFault;
 use crate::options::{
     CellForm, RowRange, address, commands, form, is_given, least, only, rows, seed, stores, turns,
-    types, wild,
+    types, watched_types, wild,
 };
 use crate::usages::{Topic, topic_of};
 use chi_explain::StoreListing;
@@ -54,6 +54,17 @@ pub enum Job<'a> {
         complete: bool,
         /// The address of the line whose explanation is written as a check file, where one is given.
         only: Option<Address>,
+    },
+    /// `observe FILE [--types two|four|any] [--early-grants] [--complete]`: judges the trace at this path, whatever its home
+    /// and its caches are.
+    Observe {
+        path: &'a str,
+        /// Which types of credit it has; any where it isn't given.
+        types: Types,
+        /// Whether its monitors stand at the requesters, where a grant may come before its RetryAck.
+        early_grants: bool,
+        /// Whether nothing may be open at its end.
+        complete: bool,
     },
     /// `storm FILE [--seed N] [--turns N]`: runs the scripts of the file at this path in threads.
     Storm {
@@ -126,6 +137,9 @@ const CHART: &str = "chart";
 
 /// The subcommand that explains a trace.
 const EXPLAIN: &str = "explain";
+
+/// The subcommand that judges a trace.
+const OBSERVE: &str = "observe";
 
 /// The subcommand that runs a storm.
 const STORM: &str = "storm";
@@ -217,6 +231,7 @@ fn command_line<'a>(alloc: Global) -> Result<Command<'a>, AllocError>
         .subcommand(check_command(alloc)?)?
         .subcommand(chart_command(alloc)?)?
         .subcommand(explain_command(alloc)?)?
+        .subcommand(observe_command(alloc)?)?
         .subcommand(storm_command(alloc)?)?
         .subcommand(cover_command(alloc)?)?
         .subcommand(draw_command(alloc)?)?
@@ -268,6 +283,17 @@ fn explain_command<'a>(alloc: Global) -> Result<Command<'a>, AllocError>
         .arg(flag(alloc, EARLY_GRANTS))?
         .arg(flag(alloc, COMPLETE))?
         .arg(option(alloc, LINE))
+}
+
+/// The command line of `observe`.
+fn observe_command<'a>(alloc: Global) -> Result<Command<'a>, AllocError>
+    ensures { IfOk result (λ command. IsCommand observe_line command) }
+{
+    Command::new(alloc, OBSERVE)
+        .arg(file(alloc))?
+        .arg(option(alloc, TYPES))?
+        .arg(flag(alloc, EARLY_GRANTS))?
+        .arg(flag(alloc, COMPLETE))
 }
 
 /// The command line of `storm`.
@@ -382,6 +408,7 @@ fn read_job<'a>(alloc: Global, matches: &ArgMatches<'a>) -> Result<Job<'a>, ArgF
         Some((CHECK, check)) => read_check(alloc, check),
         Some((CHART, chart)) => read_chart(chart).ok_or(ArgFault::Bad),
         Some((EXPLAIN, explain)) => read_explain(explain).ok_or(ArgFault::Bad),
+        Some((OBSERVE, observe)) => read_observe(observe).ok_or(ArgFault::Bad),
         Some((STORM, storm)) => read_storm(storm).ok_or(ArgFault::Bad),
         Some((COVER, cover)) => read_cover(alloc, cover),
         Some((DRAW, draw)) => read_draw(draw).ok_or(ArgFault::Bad),
@@ -441,6 +468,22 @@ fn read_explain<'a>(matches: &ArgMatches<'a>) -> Option<Job<'a>>
         early_grants,
         complete,
         only,
+    })
+}
+
+/// The job of `observe FILE` and its options.
+fn read_observe<'a>(matches: &ArgMatches<'a>) -> Option<Job<'a>>
+    ensures { option_map asked_by result ≡ observe_in (rows_of (found_of matches.now)) }
+{
+    let path = text_of(matches, FILE)?;
+    let types = watched_types(text_of(matches, TYPES))?;
+    let early_grants = is_given(text_of(matches, EARLY_GRANTS));
+    let complete = is_given(text_of(matches, COMPLETE));
+    Some(Job::Observe {
+        path,
+        types,
+        early_grants,
+        complete,
     })
 }
 

@@ -2,7 +2,7 @@
 
 ghost use Rattle.std.specs.Prelude.{◌≡◌, ◌==◌, Some, option_map};
 ghost use Rattle.std.specs.List.{position};
-ghost use Rattle.chi_program.specs.Options.{asked_address_of, commands_option, form_option, is_given, least_option, line_option, range_of, rows_option, seed_of, stores_option, turns_of, types_option, wild_option};
+ghost use Rattle.chi_program.specs.Options.{asked_address_of, commands_option, form_option, is_given, least_option, line_option, range_of, rows_option, seed_of, stores_option, turns_of, types_option, watched_types_option, wild_option};
 
 use chi_explain::StoreListing;
 use chi_flit::Line;
@@ -131,6 +131,17 @@ pub fn types(value: Option<&str>) -> Option<Types>
 {
     match value {
         None => Some(Types::Two),
+        Some(word) => types_in(word.as_bytes()),
+    }
+}
+
+/// The same of a trace that is observed: any where it isn't given.
+/// Source: `docs/FORMATS.md`, "The program".
+pub fn watched_types(value: Option<&str>) -> Option<Types>
+    ensures { result ≡ watched_types_option (option_map (λ word. word.now) value.entry) }
+{
+    match value {
+        None => Some(Types::Any),
         Some(word) => types_in(word.as_bytes()),
     }
 }

@@ -4,11 +4,12 @@ ghost use Rattle.std.specs.Prelude.{◌≡◌, Ok, Some, IfOk, IfErr, Contains, 
 ghost use Rattle.std.specs.Vec.Iter.{into_iter_items};
 ghost use Rattle.chi_program.specs.declared.faults.ArgFault.{ArgFault};
 ghost use Rattle.chi_program.specs.declared.program.Stop.TheVariants.{Arguments, Run};
-ghost use Rattle.chi_program.specs.Stops.{check_end, cover_end, draw_end, end_status, explain_end, merge_end, run_status, statuses, stop_status, stop_text, storm_end, suite_stop, wanted_end, words_fault};
+ghost use Rattle.chi_program.specs.Stops.{check_end, cover_end, draw_end, end_status, explain_end, merge_end, observe_end, run_status, statuses, stop_status, stop_text, storm_end, suite_stop, wanted_end, words_fault};
 ghost use Rattle.chi_program.specs.Charts.{part_asked};
 ghost use Rattle.chi_program.specs.Covers.{form_asked};
 ghost use Rattle.chi_program.specs.Endings.{ending_asked};
 ghost use Rattle.chi_program.specs.Suites.{given_in};
+ghost use Rattle.chi_program.specs.Watches.{types_watched};
 ghost use Rattle.chi_replay.specs.Suites.{given_of};
 
 use crate::faults::ArgFault;
@@ -19,8 +20,9 @@ use crate::usages::{usage, version};
 use chi_chart::{ChartPart, chart};
 use chi_coverage::{CoverForm, CoverShape, cover, merge};
 use chi_flit::Line;
+use chi_observe::{CreditTypes, ObserveOutcome, WatchOptions, observe};
 use chi_replay::{SuiteFile, SuiteForm, check, check_suite, replay};
-use chi_resolution::Options;
+use chi_resolution::{Options, Types};
 use chi_script::{
     Fault, FileInput, MOST_BYTES, MOST_CHECK_BYTES, MemoryInput, Output, StandardOutput, hint_at,
     read_most,
@@ -191,6 +193,18 @@ fn work<R: Files + AllocGlobal + Print + Eprint + Threads + Wait + Clock + Sync>
             };
             let ending = ending_of(complete);
             Ok(explain_file(rt, path, options, Asked { ending, only })?)
+        }
+        Job::Observe {
+            path,
+            types,
+            early_grants,
+            complete,
+        } => {
+            let options = WatchOptions {
+                types: types_watched(types),
+                early_grants,
+            };
+            Ok(observe_file(rt, path, options, complete)?)
         }
         Job::Storm { path, seed, turns } => Ok(storm_file(rt, path, seed, turns)?),
         Job::Cover {
@@ -697,5 +711,45 @@ fn explain_end(outcome: TraceOutcome) -> End
         TraceOutcome::Nothing => End::Nothing,
         TraceOutcome::Faulty(_) => End::Unexplained,
         TraceOutcome::Malformed(_) => End::Malformed,
+    }
+}
+
+/// The types of credit that a watch is given.
+fn types_watched(types: Types) -> CreditTypes
+    ensures { result ≡ types_watched types }
+{
+    match types {
+        Types::Two => CreditTypes::Two,
+        Types::Four => CreditTypes::Four,
+        Types::Any => CreditTypes::Any,
+    }
+}
+
+/// Writes to standard output what comes of the trace at the path; of a malformed one a line is on standard error.
+fn observe_file<R: Files + AllocGlobal + Print + Eprint>(
+    rt: &R,
+    path: &str,
+    options: WatchOptions,
+    complete: bool,
+) -> Result<End, Fault> {
+    let mut input = FileInput::open(rt, file_of(path))?;
+    let mut output = StandardOutput::new(io::writer(rt));
+    let report = observe(rt.alloc(), &mut input, &mut output, options, complete)?;
+    if matches!(report.outcome, ObserveOutcome::Malformed(_)) {
+        let _ = rt.eprintln(report.text.as_str());
+    }
+    Ok(observe_end(report.outcome))
+}
+
+/// The end of a trace of which this came.
+fn observe_end(outcome: ObserveOutcome) -> End
+    ensures { result ≡ observe_end outcome }
+{
+    match outcome {
+        ObserveOutcome::Accepted(_) => End::Done,
+        ObserveOutcome::Incomplete(_) => End::Incomplete,
+        ObserveOutcome::Nothing => End::Nothing,
+        ObserveOutcome::Faulty(_) => End::Unexplained,
+        ObserveOutcome::Malformed(_) => End::Malformed,
     }
 }

@@ -1,7 +1,7 @@
 //! How the commands are used, and which version this is.
 
 ghost use Rattle.std.specs.Prelude.{◌≡◌, option_map};
-ghost use Rattle.chi_program.specs.Usage.{all_lines, replay_lines, check_lines, chart_lines, storm_lines, explain_lines, cover_lines, draw_lines, usage_lines, version_lines, topic_named, topic_option, usage_text, version_text};
+ghost use Rattle.chi_program.specs.Usage.{all_lines, replay_lines, check_lines, chart_lines, storm_lines, explain_lines, observe_lines, cover_lines, draw_lines, usage_lines, version_lines, topic_named, topic_option, usage_text, version_text};
 
 use chi_script::is;
 
@@ -16,6 +16,7 @@ pub enum Topic {
     Chart,
     Storm,
     Explain,
+    Observe,
     Cover,
     Draw,
     Usage,
@@ -49,6 +50,8 @@ fn topic_named(word: &[u8]) -> Option<Topic>
         Some(Topic::Storm)
     } else if is(word, "explain") {
         Some(Topic::Explain)
+    } else if is(word, "observe") {
+        Some(Topic::Observe)
     } else if is(word, "cover") {
         Some(Topic::Cover)
     } else if is(word, "draw") {
@@ -74,6 +77,7 @@ pub fn usage(topic: Topic) -> &'static str
         Topic::Chart => chart_usage(),
         Topic::Storm => storm_usage(),
         Topic::Explain => explain_usage(),
+        Topic::Observe => observe_usage(),
         Topic::Cover => cover_usage(),
         Topic::Draw => draw_usage(),
         Topic::Usage => usage_usage(),
@@ -91,6 +95,7 @@ fn all_usage() -> &'static str
      chihome chart FILE [--line L] [--rows A-B]\n\
      chihome storm FILE [--seed N] [--turns N]\n\
      chihome explain FILE [--types two|four|any] [--stores hidden|listed] [--early-grants] [--complete] [--line ADDR]\n\
+     chihome observe FILE [--types two|four|any] [--early-grants] [--complete]\n\
      chihome cover FILE.. [--missing] [--json] [--tsv] [--merge] [--at-least N]\n\
      chihome draw [--seed N] --commands M [--wild P] [--weights FILE] [--kinds LIST] [--drain] HEADER\n\
      chihome usage [COMMAND]\n\
@@ -150,6 +155,18 @@ fn explain_usage() -> &'static str
      \x20 --early-grants       a grant may come before its RetryAck\n\
      \x20 --complete           nothing may be open at its end\n\
      \x20 --line ADDR          writes the explanation of the line at ADDR as a check file\n"
+}
+
+/// How `observe` is used.
+#[tactic(auto, unfolding(crate::specs::Usage::observe_lines))]
+fn observe_usage() -> &'static str
+    ensures { result.now ≡ observe_lines }
+{
+    "chihome observe FILE [--types two|four|any] [--early-grants] [--complete]\n\
+     Judges a trace, whatever its home and its caches are.\n\
+     \x20 --types T            its types of credit; any where it isn't given\n\
+     \x20 --early-grants       a grant may come before its RetryAck\n\
+     \x20 --complete           nothing may be open at its end\n"
 }
 
 /// How `cover` is used.
