@@ -1,8 +1,8 @@
 //! Each fault once, at the last flit of a trace.
 
 use crate::traces::{PLAIN, assert_fault, resolved};
-use chi_resolution::{CacheLine, IdReason, OpenKey, resolve};
-use chi_trace::{Address, Column, DbId, NodeId, Opcode, Payload, PcrdType, Resp, Seen, TxnId};
+use chi_resolution::{CacheLine, IdReason, OpenKey};
+use chi_trace::{Address, DbId, NodeId, PcrdType, Resp, TxnId};
 use std::test::Fail;
 
 /// Traces, how many flits they have, and why the last isn't allowed.
@@ -118,29 +118,5 @@ fn requesters_are_eight(rt: HostRuntime) -> Result<(), Fail> {
     assert_fault(&rt, &resolution, 9, IdReason::NinthRequester(NodeId(9)));
     assert_eq!(rt; resolution.nodes.requesters.len(), 8);
     assert_eq!(rt; resolution.flits.len(), 8);
-    Ok(())
-}
-
-/// A request without an id, which no line of a trace is.
-const NO_ID: Seen = Seen {
-    line: 1,
-    opcode: Opcode::CompAck,
-    source: NodeId(8),
-    target: Some(NodeId(0x40)),
-    txn: None,
-    address: None,
-    resp: None,
-    dbid: None,
-    allow_retry: None,
-    pcrd: None,
-    payload: Payload::Nothing,
-};
-
-#[test]
-fn fields_are_needed(rt: HostRuntime) -> Result<(), Fail> {
-    let resolution = resolve(rt.alloc(), &[NO_ID], PLAIN)
-        .ok()
-        .ok_or("no memory")?;
-    assert_fault(&rt, &resolution, 1, IdReason::Lacks(Column::Txn));
     Ok(())
 }

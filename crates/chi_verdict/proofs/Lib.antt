@@ -1,6 +1,7 @@
 mod ClosingLemmas
 mod LineLemmas
 mod SortLemmas
+mod ReadingLemmas
 mod VerdictLemmas
 mod UnseenLemmas
 mod WritingLemmas

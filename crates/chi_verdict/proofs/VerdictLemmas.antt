@@ -1,6 +1,5 @@
 -- What is said of a report, from what its parts say.
-use Rattle.std.proofs.Common.{◌≡◌, ◌≢◌, ◌∙◌, ◌<◌, ℕ, Bool, true, false, not, List, length, nat_lt, take, Option, Some, None, Result, Ok, Err, IfErr, IfOk, IfSome, refl, subst, sym, ap, arith, if◌then◌else◌}
-use Rattle.std.specs.List.{count_by}
+use Rattle.std.proofs.Common.{◌≡◌, ◌≢◌, ◌∙◌, ◌<◌, ℕ, Bool, true, false, List, length, nat_lt, take, Option, Some, None, Result, Ok, Err, IfOk, IfSome, refl, subst, sym, ap, arith, if◌then◌else◌}
 use Rattle.std.specs.Map.{values_of}
 use Rattle.std.proofs.lemmas.Bool.{lt-ltb, ltb-false, ltb-true}
 use Rattle.std.proofs.lemmas.List.{length-take, take_all}
@@ -21,16 +20,18 @@ use Rattle.chi_resolution.specs.declared.reasons.IdFault.{IdFault}
 use Rattle.chi_resolution.specs.declared.resolution.Options.{Options}
 use Rattle.chi_verdict.specs.declared.asked.Asked.{Asked}
 use Rattle.chi_verdict.specs.declared.asked.Ending.{Ending}
+use Rattle.chi_verdict.specs.declared.asked.Ending.TheVariants.{Any, Complete}
+use Rattle.chi_verdict.specs.declared.readings.Counts.{Counts}
+use Rattle.chi_verdict.specs.declared.readings.Reading.{Reading}
 use Rattle.chi_verdict.specs.declared.reports.TraceOutcome.{TraceOutcome}
 use Rattle.chi_verdict.specs.declared.reports.TraceOutcome.TheVariants.{Malformed}
 use Rattle.chi_verdict.specs.declared.reports.TraceStop.{TraceStop}
 use Rattle.chi_verdict.specs.declared.reports.TraceTotals.{TraceTotals}
-use Rattle.chi_verdict.specs.Closing.{closed}
-use Rattle.chi_verdict.specs.Ending.{is_anything_open, is_nothing_there, trace_outcome_of}
-use Rattle.chi_verdict.specs.Lines.{AreLinesExplained}
+use Rattle.chi_verdict.specs.Ending.{explained_outcome, is_anything_open, is_nothing_of, is_nothing_there, trace_outcome_of}
+use Rattle.chi_verdict.specs.Counts.{AreCounts}
+use Rattle.chi_verdict.specs.Readings.{IsReadAs, IsReading}
 use Rattle.chi_verdict.specs.Texts.{BeginsWith, IsOutcomeText, malformed_front}
-use Rattle.chi_verdict.specs.Unseen.{AreFilled}
-use Rattle.chi_verdict.specs.Verdicts.{IsFlitsReport, IsTraceJudged, IsReport, IsReportOn, IsStop, Items, is_seen_access, is_table_open, items_of_table, items_with, verdict_sizes}
+use Rattle.chi_verdict.specs.Verdicts.{IsFlitsReport, IsTraceJudged, IsReport, IsReportOn, Items, is_table_open, items_of_table, items_with, names_flits, verdict_sizes}
 
 -- the same fact in other words
 pub carried : {X E : Type 0} (P Q : X → Type 0) (r : Result X E) → ((x : X) → P x → Q x) → IfOk r P → IfOk r Q
@@ -70,12 +71,12 @@ malformed_report options asked read fault outcome text (Ok x) fails is other sai
 malformed_report options asked read fault outcome text (Err e) fails is other said = tt
 
 -- what was judged is the trace's resolution
-moved : (config config' : Sizes) (stores : StoreListing) (seen : List Seen) (fault fault' : Option IdFault) (items items' : Items) (outcome : Result TraceTotals TraceStop) → config ≡ config' → fault ≡ fault' → items ≡ items'
-    → IsTraceJudged config stores seen fault items outcome → IsTraceJudged config' stores seen fault' items' outcome
-moved config config' stores seen fault fault' items items' outcome size same_fault same is =
-    subst (λ (i : Items). IsTraceJudged config' stores seen fault' i outcome) same
-    (subst (λ (f : Option IdFault). IsTraceJudged config' stores seen f items outcome) same_fault
-    (subst (λ (c : Sizes). IsTraceJudged c stores seen fault items outcome) size is))
+moved : (config config' : Sizes) (stores : StoreListing) (counts : Counts) (fault fault' : Option IdFault) (items items' : Items) (outcome : Result TraceTotals TraceStop) → config ≡ config' → fault ≡ fault' → items ≡ items'
+    → IsTraceJudged config stores counts fault items outcome → IsTraceJudged config' stores counts fault' items' outcome
+moved config config' stores counts fault fault' items items' outcome size same_fault same is =
+    subst (λ (i : Items). IsTraceJudged config' stores counts fault' i outcome) same
+    (subst (λ (f : Option IdFault). IsTraceJudged config' stores counts f items outcome) same_fault
+    (subst (λ (c : Sizes). IsTraceJudged c stores counts fault items outcome) size is))
 
 same_items : (flits flits' : List Resolved) (unfinished unfinished' : List OpenData) (waiting waiting' : List Resolved) → flits ≡ flits' → unfinished ≡ unfinished' → waiting ≡ waiting' → items_with flits unfinished waiting ≡ items_with flits' unfinished' waiting'
 same_items flits flits' unfinished unfinished' waiting waiting' same same_unfinished same_waiting = λ i. items_with (same i) (same_unfinished i) (same_waiting i)
@@ -90,32 +91,55 @@ same_nothing only seen flits flits' waiting waiting' a b = λ i. is_nothing_ther
 same_outcome : (ending : Ending) (is_open is_open' nothing nothing' : Bool) (judged : Result TraceTotals TraceStop) → is_open ≡ is_open' → nothing ≡ nothing' → trace_outcome_of ending is_open nothing judged ≡ trace_outcome_of ending is_open' nothing' judged
 same_outcome ending is_open is_open' nothing nothing' judged a b = λ i. trace_outcome_of ending (a i) (b i) judged
 
-pub flits_report : {R E : Type 0} (options : Options) (asked : Asked) (seen : List Seen) (judged : Result TraceTotals TraceStop) (config : Sizes) (fault : Option IdFault) (items : List Resolved) (unfinished : List OpenData) (waiting : List Resolved) (ids : List OpenId) (accounts : List CreditLedger) (is_open nothing : Bool) (outcome : R → TraceOutcome) (text : R → List ℕ) (r : Result R E)
+-- a text that names no flits is that of any
+open_text : (asked : Asked) (seen named : List Seen) (is_open nothing : Bool) (totals : TraceTotals) (text : List ℕ) → IsOutcomeText named asked.only (explained_outcome asked.ending is_open nothing totals) text → IsOutcomeText seen asked.only (explained_outcome asked.ending is_open nothing totals) text
+open_text asked seen named is_open nothing totals text told = by_cases asked.ending is_open nothing told
+  where
+    by_cases : (ending : Ending) (is_open nothing : Bool) → IsOutcomeText named asked.only (explained_outcome ending is_open nothing totals) text → IsOutcomeText seen asked.only (explained_outcome ending is_open nothing totals) text
+    by_cases ending is_open true told = told
+    by_cases Any is_open false told = told
+    by_cases Complete true false told = told
+    by_cases Complete false false told = told
+
+judged_text : (asked : Asked) (seen named : List Seen) (is_open nothing : Bool) (judged : Result TraceTotals TraceStop) (text : List ℕ) → (names_flits judged asked.only ≡ true → named ≡ seen)
+    → IsOutcomeText named asked.only (trace_outcome_of asked.ending is_open nothing judged) text → IsOutcomeText seen asked.only (trace_outcome_of asked.ending is_open nothing judged) text
+judged_text asked seen named is_open nothing (Ok totals) text same told = open_text asked seen named is_open nothing totals text told
+judged_text asked seen named is_open nothing (Err stop) text same told = subst (λ (s : List Seen). IsOutcomeText s asked.only (trace_outcome_of asked.ending is_open nothing (Err stop)) text) (same refl) told
+
+text_of : (asked : Asked) (seen named : List Seen) (is_open nothing : Bool) (judged : Result TraceTotals TraceStop) (outcome : TraceOutcome) (text : List ℕ) → outcome ≡ trace_outcome_of asked.ending is_open nothing judged → (names_flits judged asked.only ≡ true → named ≡ seen)
+    → IsOutcomeText named asked.only outcome text → IsOutcomeText seen asked.only outcome text
+text_of asked seen named is_open nothing judged outcome text is same told =
+    subst (λ (o : TraceOutcome). IsOutcomeText seen asked.only o text) (sym is) (judged_text asked seen named is_open nothing judged text same (subst (λ (o : TraceOutcome). IsOutcomeText named asked.only o text) is told))
+
+pub flits_report : {R E : Type 0} (options : Options) (asked : Asked) (seen named : List Seen) (counts : Counts) (judged : Result TraceTotals TraceStop) (config : Sizes) (fault : Option IdFault) (items : List Resolved) (unfinished : List OpenData) (waiting : List Resolved) (ids : List OpenId) (accounts : List CreditLedger) (is_open nothing : Bool) (outcome : R → TraceOutcome) (text : R → List ℕ) (r : Result R E)
     → config ≡ verdict_sizes options.types → fault ≡ (resolution_of options seen).fault → items ≡ (resolution_of options seen).progress.table.flits → unfinished ≡ values_of (resolution_of options seen).progress.table.unfinished → waiting ≡ (resolution_of options seen).progress.table.waiting
-    → ids ≡ values_of (resolution_of options seen).progress.table.ids → accounts ≡ (resolution_of options seen).progress.table.accounts → is_open ≡ is_anything_open ids unfinished waiting accounts → nothing ≡ is_nothing_there asked.only seen items waiting
-    → IsTraceJudged config options.stores seen fault (items_with items unfinished waiting) judged → IfOk r (λ x. outcome x ≡ trace_outcome_of asked.ending is_open nothing judged) → IfOk r (λ x. IsOutcomeText seen asked.only (outcome x) (text x)) → IfOk r (λ x. IsFlitsReport options asked seen (outcome x) (text x))
-flits_report options asked seen judged config fault items unfinished waiting ids accounts is_open nothing outcome text (Ok x) size same_fault same same_unfinished same_waiting same_ids same_accounts opens none of is told = record {
+    → ids ≡ values_of (resolution_of options seen).progress.table.ids → accounts ≡ (resolution_of options seen).progress.table.accounts → is_open ≡ is_anything_open ids unfinished waiting accounts → nothing ≡ is_nothing_of asked.only counts.all items waiting → AreCounts seen counts
+    → (names_flits judged asked.only ≡ true → named ≡ seen) → IsTraceJudged config options.stores counts fault (items_with items unfinished waiting) judged → IfOk r (λ x. outcome x ≡ trace_outcome_of asked.ending is_open nothing judged) → IfOk r (λ x. IsOutcomeText named asked.only (outcome x) (text x)) → IfOk r (λ x. IsFlitsReport options asked seen (outcome x) (text x))
+flits_report options asked seen named counts judged config fault items unfinished waiting ids accounts is_open nothing outcome text (Ok x) size same_fault same same_unfinished same_waiting same_ids same_accounts opens none are same_named of is told = record {
   verdict = record {
+    counts = counts;
+    counted = are;
     judged = judged;
-    holds = moved config (verdict_sizes options.types) options.stores seen fault (resolution_of options seen).fault (items_with items unfinished waiting) (items_of_table (resolution_of options seen).progress.table) judged size same_fault
+    holds = moved config (verdict_sizes options.types) options.stores counts fault (resolution_of options seen).fault (items_with items unfinished waiting) (items_of_table (resolution_of options seen).progress.table) judged size same_fault
         (same_items items (resolution_of options seen).progress.table.flits unfinished (values_of (resolution_of options seen).progress.table.unfinished) waiting (resolution_of options seen).progress.table.waiting same same_unfinished same_waiting) of;
     told = is ∙ same_outcome asked.ending is_open (is_table_open (resolution_of options seen).progress.table) nothing (is_nothing_there asked.only seen (resolution_of options seen).progress.table.flits (resolution_of options seen).progress.table.waiting) judged
         (opens ∙ same_open ids (values_of (resolution_of options seen).progress.table.ids) unfinished (values_of (resolution_of options seen).progress.table.unfinished) waiting (resolution_of options seen).progress.table.waiting accounts (resolution_of options seen).progress.table.accounts same_ids same_unfinished same_waiting same_accounts)
-        (none ∙ same_nothing asked.only seen items (resolution_of options seen).progress.table.flits waiting (resolution_of options seen).progress.table.waiting same same_waiting);
+        (none ∙ (ap (λ (n : ℕ). is_nothing_of asked.only n items waiting) are.all ∙ same_nothing asked.only seen items (resolution_of options seen).progress.table.flits waiting (resolution_of options seen).progress.table.waiting same same_waiting));
   };
-  told = told;
+  told = text_of asked seen named is_open nothing judged (outcome x) (text x) is same_named told;
 }
-flits_report options asked seen judged config fault items unfinished waiting ids accounts is_open nothing outcome text (Err e) size same_fault same same_unfinished same_waiting same_ids same_accounts opens none of is told = tt
+flits_report options asked seen named counts judged config fault items unfinished waiting ids accounts is_open nothing outcome text (Err e) size same_fault same same_unfinished same_waiting same_ids same_accounts opens none are same_named of is told = tt
 
-pub judged : (config : Sizes) (stores : StoreListing) (seen : List Seen) (fault : Option IdFault) (items whole_items whole : List Resolved) (unfinished : List OpenData) (waiting : List Resolved) (actions lines : ℕ) (r : Result TraceTotals TraceStop) → whole_items ≡ closed items waiting → AreFilled unfinished whole_items whole → AreLinesExplained config stores whole actions lines
-    → IfOk r (λ total. fault ≡ None) → IfOk r (λ total. total.flits ≡ count_by (λ one. not (is_seen_access one)) seen) → IfOk r (λ total. total.accesses ≡ count_by is_seen_access seen) → IfOk r (λ total. total.actions ≡ actions) → IfOk r (λ total. total.lines ≡ lines)
-    → IfErr r (IsStop fault) → IsTraceJudged config stores seen fault (items_with items unfinished waiting) r
-judged config stores seen fault items whole_items whole unfinished waiting actions lines (Ok total) behind filled known allowed flits accesses same_actions same_lines err = record {
-  allowed = allowed;
-  flits = flits;
-  accesses = accesses;
-  whole = whole;
-  filled = subst (λ (l : List Resolved). AreFilled unfinished l whole) behind filled;
-  lines = subst (λ (n : ℕ). AreLinesExplained config stores whole total.actions n) (sym same_lines) (subst (λ (n : ℕ). AreLinesExplained config stores whole n lines) (sym same_actions) known);
-}
-judged config stores seen fault items whole_items whole unfinished waiting actions lines (Err stop) behind filled known allowed flits accesses same_actions same_lines err = err
+-- what is told of the trace that was read, or of the one that the grammar reads
+pub report_as : {Y : Type 0} (options : Options) (asked : Asked) (reading : Reading Y) (read : Result (List Seen) TraceFault) (outcome : TraceOutcome) (text : List ℕ) → IsReadAs options (Ok reading) read
+    → ((seen : List Seen) → read ≡ Ok seen → IsReading options seen reading → IsFlitsReport options asked seen outcome text) → IsReportOn options asked read outcome text
+report_as options asked reading (Ok seen) outcome text is report = report seen refl is
+report_as options asked reading (Err fault) outcome text is report = absurd is
+
+-- the flits that are named are those of the trace
+pub same_flits : (file : List ℕ) (seen named : List Seen) → trace_of file ≡ Ok seen → trace_of file ≡ Ok named → named ≡ seen
+same_flits file seen named e f = let same : ◌≡◌ {A = Result (List Seen) TraceFault} (Ok named) (Ok seen) = sym f ∙ e in cc
+
+pub for_all : {R E : Type 0} (r : Result R E) (P P' : List Seen → Type 0) (Q : List Seen → R → Type 0) → ((seen : List Seen) → P seen → P' seen → IfOk r (Q seen)) → IfOk r (λ x. (seen : List Seen) → P seen → P' seen → Q seen x)
+for_all (Ok x) P P' Q f = f
+for_all (Err e) P P' Q f = tt

@@ -1,5 +1,5 @@
 -- What is open where a trace ends, and what is told of one that is explained (docs/TRACES.md, "What is printed").
-use Rattle.std.specs.Prelude.{ℕ, ◌||◌, ◌==◌, ◌++◌, Bool, true, false, not, List, length, nat_lt, Option, Some, None, Result, Ok, Err}
+use Rattle.std.specs.Prelude.{ℕ, ◌||◌, ◌==◌, Bool, true, false, not, List, length, nat_lt, Option, Some, None, Result, Ok, Err}
 use Rattle.std.specs.List.{list_any}
 use Rattle.chi_trace.specs.declared.fields.Address.{Address}
 use Rattle.chi_trace.specs.declared.flits.Seen.{Seen}
@@ -27,9 +27,12 @@ is_anything_open ids unfinished waiting accounts =
     nat_lt 0 (length ids) || (nat_lt 0 (length unfinished) || (nat_lt 0 (length waiting) || list_any is_account_open accounts))
 
 -- the trace has no flit, load or store, or none of the line of an address
+abbrev pub is_nothing_of : Option Address → ℕ → List Resolved → List Resolved → Bool
+is_nothing_of None count flits waiting = count == 0
+is_nothing_of (Some address) count flits waiting = not (list_any (is_on_line (line_of address)) flits || list_any (is_on_line (line_of address)) waiting)
+
 abbrev pub is_nothing_there : Option Address → List Seen → List Resolved → List Resolved → Bool
-is_nothing_there None seen flits waiting = length seen == 0
-is_nothing_there (Some address) seen flits waiting = not (list_any (is_on_line (line_of address)) flits || list_any (is_on_line (line_of address)) waiting)
+is_nothing_there only seen flits waiting = is_nothing_of only (length seen) flits waiting
 
 -- what is told of a trace each of whose lines is explained: by whether anything may be open, whether it is, and whether
 -- nothing was seen of what is asked for

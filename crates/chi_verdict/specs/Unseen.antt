@@ -6,16 +6,18 @@ use Rattle.chi_flit.specs.declared.message.DatUp.{DatUp}
 use Rattle.chi_flit.specs.declared.message.DatUp.TheVariants.{SnpRespDataIPD, SnpRespDataSCPD, SnpRespDataSD, CopyBackWrData}
 use Rattle.chi_flit.specs.declared.message.Msg.{Msg}
 use Rattle.chi_flit.specs.declared.message.Msg.TheVariants.{DatDown, DatUp as Written}
+use Rattle.chi_trace.specs.Fields.{word_at}
+use Rattle.chi_trace.specs.declared.fields.Beat.{Beat}
 use Rattle.chi_explain.specs.declared.observed.Observed.{Observed}
 use Rattle.chi_explain.specs.declared.observed.Observed.TheVariants.{Flit}
 use Rattle.chi_resolution.specs.declared.beats.OpenData.{OpenData}
 use Rattle.chi_resolution.specs.declared.lines.Resolved.{Resolved}
 
 -- the words that the beats have had, and these in place of those that lack
-abbrev pub filled_word : List (Option ℕ) → List ℕ → ℕ → ℕ
-filled_word beats others n = unwrap_or (slice_index_or beats n None) (slice_index_or others n 0)
+abbrev pub filled_word : Beat → List ℕ → ℕ → ℕ
+filled_word beats others n = unwrap_or (word_at beats n) (slice_index_or others n 0)
 
-abbrev pub words_with : List (Option ℕ) → List ℕ → List ℕ
+abbrev pub words_with : Beat → List ℕ → List ℕ
 words_with beats others =
     filled_word beats others 0
     ∷ filled_word beats others 1
@@ -46,7 +48,7 @@ seen_with other new = other
 -- the items, where data that lacks words has these in place of them
 abbrev pub filled_in : OpenData → List ℕ → List Resolved → Option Resolved → List Resolved
 filled_in begun others items None = items
-filled_in begun others items (Some item) = slice_set items begun.place (record item { flit = seen_with item.flit (words_with begun.words others) })
+filled_in begun others items (Some item) = slice_set items begun.place (record item { flit = seen_with item.flit (words_with begun.beat others) })
 
 abbrev pub filled_with : OpenData → List ℕ → List Resolved → List Resolved
 filled_with begun others items = filled_in begun others items (slice_get items begun.place)

@@ -1,8 +1,8 @@
 -- What it is for a trace to be explained, and what is told of one that isn't (docs/TRACES.md, "What is printed").
-use Rattle.std.specs.Prelude.{◌≡◌, ◌<◌, ◌+◌, ℕ, Bool, true, false, not, List, [], ◌∷◌, Option, Some, None, Result, Ok, Err, IfSome, IsErrOf, length}
+use Rattle.std.specs.Prelude.{◌≡◌, ◌<◌, ◌+◌, ℕ, Bool, true, false, List, [], ◌∷◌, Option, Some, None, Result, Ok, Err, IfSome, IsErrOf, is_some, ◌||◌}
 use Rattle.std.specs.Io.KnownBytes.{Appends, Keeps}
-use Rattle.std.specs.List.{count_by}
 use Rattle.std.specs.Map.{values_of}
+use Rattle.std.specs.Result.{is_err}
 use Rattle.chi_devices.specs.Devices.{AppendsFront}
 use Rattle.chi_script.specs.declared.faults.Fault.{Fault}
 use Rattle.chi_script.specs.declared.faults.Fault.TheVariants as faults
@@ -10,10 +10,9 @@ use Rattle.chi_slice.specs.Words.{four_types, two_types, Sizes}
 use Rattle.chi_explain.specs.declared.observed.StoreListing.{StoreListing}
 use Rattle.chi_trace.specs.Files.{trace_of}
 use Rattle.chi_trace.specs.declared.faults.TraceFault.{TraceFault}
+use Rattle.chi_trace.specs.declared.fields.Address.{Address}
 use Rattle.chi_trace.specs.declared.flits.Seen.{Seen}
-use Rattle.chi_trace.specs.declared.opcodes.Opcode.{Opcode}
-use Rattle.chi_trace.specs.declared.opcodes.Opcode.TheVariants.{Load, Store}
-use Rattle.chi_resolution.specs.Changes.{Open}
+use Rattle.chi_resolution.specs.Tables.{Open}
 use Rattle.chi_resolution.specs.Resolution.{resolution_of, IdOutcome}
 use Rattle.chi_resolution.specs.declared.beats.OpenData.{OpenData}
 use Rattle.chi_resolution.specs.declared.ledger.Types.{Types}
@@ -27,7 +26,9 @@ use Rattle.chi_verdict.specs.declared.reports.TraceStop.{TraceStop}
 use Rattle.chi_verdict.specs.declared.reports.TraceStop.TheVariants.{Ids, Flit, Undone}
 use Rattle.chi_verdict.specs.declared.reports.TraceTotals.{TraceTotals}
 use Rattle.chi_verdict.specs.declared.asked.Asked.{Asked}
+use Rattle.chi_verdict.specs.declared.readings.Counts.{Counts}
 use Rattle.chi_verdict.specs.Closing.{closed}
+use Rattle.chi_verdict.specs.Counts.{AreCounts}
 use Rattle.chi_verdict.specs.Ending.{is_anything_open, is_nothing_there, trace_outcome_of}
 use Rattle.chi_verdict.specs.Lines.{AreLinesExplained}
 use Rattle.chi_verdict.specs.Texts.{BeginsWith, IsOutcomeText, malformed_front}
@@ -38,15 +39,6 @@ abbrev pub verdict_sizes : Types → Sizes
 verdict_sizes Two = two_types 8 1 1 1 1 0
 verdict_sizes Any = two_types 8 1 1 1 1 0
 verdict_sizes Four = four_types 8 1 1 (1 ∷ 1 ∷ 1 ∷ 1 ∷ []) 0
-
--- loads and stores are no flits
-abbrev pub is_access : Opcode → Bool
-is_access Load = true
-is_access Store = true
-is_access other = false
-
-abbrev pub is_seen_access : Seen → Bool
-is_seen_access seen = is_access seen.opcode
 
 -- what a trace is resolved to, as far as its verdict needs it: the items of all lines, the data that lacks words at the
 -- end, and the loads and stores that wait
@@ -63,10 +55,10 @@ items_of_table table = items_with table.flits (values_of table.unfinished) table
 
 -- the ids and the ledger allow all the flits, and each line's flits, loads and stores are explained, with some words in
 -- place of those that lack, and as if each CompAck that a load or a store waits for came next; so many there are
-pub record IsAllExplained (config : Sizes) (stores : StoreListing) (seen : List Seen) (fault : Option IdFault) (items : Items) (totals : TraceTotals) : Type 0 where
+pub record IsAllExplained (config : Sizes) (stores : StoreListing) (counts : Counts) (fault : Option IdFault) (items : Items) (totals : TraceTotals) : Type 0 where
   pub allowed : fault ≡ None
-  pub flits : totals.flits ≡ count_by (λ one. not (is_seen_access one)) seen
-  pub accesses : totals.accesses ≡ count_by is_seen_access seen
+  pub flits : totals.flits ≡ counts.flits
+  pub accesses : totals.accesses ≡ counts.accesses
   pub whole : List Resolved
   pub filled : AreFilled items.unfinished (closed items.flits items.waiting) whole
   pub lines : AreLinesExplained config stores whole totals.actions totals.lines
@@ -83,18 +75,24 @@ IsStop fault (Ids told) = fault ≡ Some told
 IsStop fault (Flit at cause) = IsBefore at fault
 IsStop fault (Undone line) = fault ≡ None
 
--- what comes of flits that are resolved so
-abbrev pub IsTraceJudged : Sizes → StoreListing → List Seen → Option IdFault → Items → Result TraceTotals TraceStop → Type 0
-IsTraceJudged config stores seen fault items (Ok totals) = IsAllExplained config stores seen fault items totals
-IsTraceJudged config stores seen fault items (Err stop) = IsStop fault stop
+-- what comes of so many flits, loads and stores that are resolved so
+abbrev pub IsTraceJudged : Sizes → StoreListing → Counts → Option IdFault → Items → Result TraceTotals TraceStop → Type 0
+IsTraceJudged config stores counts fault items (Ok totals) = IsAllExplained config stores counts fault items totals
+IsTraceJudged config stores counts fault items (Err stop) = IsStop fault stop
 
 abbrev pub is_table_open : Open → Bool
 is_table_open table = is_anything_open (values_of table.ids) (values_of table.unfinished) table.waiting table.accounts
 
+-- a text names flits where it tells a fault, or what is explained of a line
+abbrev pub names_flits : Result TraceTotals TraceStop → Option Address → Bool
+names_flits judged only = is_err judged || is_some only
+
 -- what is asked of a trace that was judged so
 pub record IsVerdictOf (options : Options) (asked : Asked) (seen : List Seen) (resolved : IdOutcome) (outcome : TraceOutcome) : Type 0 where
+  pub counts : Counts
+  pub counted : AreCounts seen counts
   pub judged : Result TraceTotals TraceStop
-  pub holds : IsTraceJudged (verdict_sizes options.types) options.stores seen resolved.fault (items_of_table resolved.progress.table) judged
+  pub holds : IsTraceJudged (verdict_sizes options.types) options.stores counts resolved.fault (items_of_table resolved.progress.table) judged
   pub told : outcome ≡ trace_outcome_of asked.ending (is_table_open resolved.progress.table) (is_nothing_there asked.only seen resolved.progress.table.flits resolved.progress.table.waiting) judged
 
 -- what comes of the flits of a trace, and is told of them

@@ -2,11 +2,11 @@
 
 ghost use Rattle.std.specs.Prelude.{◌≡◌};
 ghost use Rattle.std.specs.List.{list_any};
-ghost use Rattle.chi_verdict.specs.Ending.{is_account_open, is_anything_open, is_nothing_there};
+ghost use Rattle.chi_verdict.specs.Ending.{is_account_open, is_anything_open, is_nothing_of};
 ghost use Rattle.chi_verdict.specs.Lines.{is_on_line};
 
 use chi_resolution::{CacheLine, CreditLedger, Resolution, Resolved, line_of};
-use chi_trace::{Address, Seen};
+use chi_trace::Address;
 use std::alloc::Allocator;
 
 /// What may be open where a trace ends.
@@ -60,17 +60,17 @@ fn has_line(line: CacheLine, items: &[Resolved]) -> bool
     items.iter().any(|item| item.line.0 == line.0)
 }
 
-/// Whether nothing was seen of what is asked for: no flit, load or store, or none of the line.
+/// Whether nothing was seen of what is asked for: of so many flits, loads and stores none, or none of the line.
 pub(crate) fn is_nothing_there<A: Allocator>(
-    seen: &[Seen],
+    count: usize,
     resolution: &Resolution<A>,
     only: Option<Address>,
 ) -> bool
-    ensures { result ≡ is_nothing_there only seen.now
+    ensures { result ≡ is_nothing_of only count
         resolution.now.flits.items resolution.now.waiting.items }
 {
     match only {
-        None => seen.is_empty(),
+        None => count == 0,
         Some(address) => {
             let line = line_of(address);
             !(has_line(line, &resolution.flits) || has_line(line, &resolution.waiting))

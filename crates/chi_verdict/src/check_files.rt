@@ -3,11 +3,12 @@
 
 use crate::ballast::Ballast;
 use crate::names::{LineName, NodeName, SeenName, kept, requester_of};
+use crate::readings::is_access;
 use chi_explain::{Observed, WitnessItem};
 use chi_flit::{Agent, Data, NO_DATA, NoMemory, Profile, Step};
 use chi_monitor::{Known, Witness};
 use chi_resolution::{CacheLine, Resolved};
-use chi_trace::{NodeId, Opcode, Seen};
+use chi_trace::{NodeId, Seen};
 use std::alloc::Allocator;
 use std::fmt::Write;
 
@@ -75,7 +76,7 @@ impl Told<'_> {
         let (node, side) = requester_of(seen);
         let (number, name, node) = (seen.line, SeenName(seen), NodeName(node));
         match item.flit {
-            Observed::Flit(_) if matches!(seen.opcode, Opcode::Load | Opcode::Store) => {
+            Observed::Flit(_) if is_access(&seen.flit) => {
                 kept(writeln!(
                     text,
                     "# behind the trace: CompAck of node {node}, for line {number}"

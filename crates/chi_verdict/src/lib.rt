@@ -14,6 +14,7 @@ mod lines;
 mod malformed;
 mod names;
 mod open_texts;
+mod readings;
 mod reports;
 mod unseen;
 

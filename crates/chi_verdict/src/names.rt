@@ -6,7 +6,7 @@ ghost use Rattle.chi_verdict.specs.Texts.{BeginsWith};
 use chi_explain::Observed;
 use chi_flit::{Msg, NoMemory, RspDown};
 use chi_resolution::CacheLine;
-use chi_trace::{NodeId, Opcode, Seen};
+use chi_trace::{Flit, NodeId, Resp, Seen};
 use std::alloc::{AllocError, Allocator};
 use std::fmt;
 
@@ -46,12 +46,12 @@ impl fmt::Display for LineName {
 
 impl fmt::Display for SeenName<'_> {
     fn fmt<W: fmt::Write>(&self, f: &mut fmt::Formatter<W>) -> fmt::Result {
-        let opcode = self.0.opcode;
+        let opcode = self.0.flit.opcode();
         write!(f, "{opcode}")?;
-        if let Some(resp) = self.0.resp {
+        if let Some(resp) = resp_of(&self.0.flit) {
             write!(f, "_{resp}")?;
         }
-        if let Some(false) = self.0.allow_retry {
+        if is_sent_again(&self.0.flit) {
             f.write_str(" with AR 0")?;
         }
         Ok(())
@@ -89,26 +89,55 @@ impl fmt::Display for ObservedName {
     }
 }
 
+/// The RESP of a flit, if it has one.
+fn resp_of(flit: &Flit) -> Option<Resp> {
+    match flit {
+        Flit::CompUC { .. } => Some(Resp::UC),
+        Flit::Comp { resp, .. }
+        | Flit::SnpResp { resp, .. }
+        | Flit::CompData { resp, .. }
+        | Flit::SnpRespData { resp, .. }
+        | Flit::CopyBackWrData { resp, .. } => Some(*resp),
+        Flit::Request { .. }
+        | Flit::PCrdReturn { .. }
+        | Flit::Snoop { .. }
+        | Flit::RetryAck { .. }
+        | Flit::CompDBIDResp { .. }
+        | Flit::PCrdGrant { .. }
+        | Flit::CompAck { .. }
+        | Flit::Load { .. }
+        | Flit::Store { .. } => None,
+    }
+}
+
+/// Whether it is a request that spends a credit.
+fn is_sent_again(flit: &Flit) -> bool {
+    matches!(
+        *flit,
+        Flit::Request {
+            spends: Some(_),
+            ..
+        }
+    )
+}
+
 /// The node that a flit's requester is, and whether the flit is of it or to it.
 pub(crate) fn requester_of(seen: &Seen) -> (NodeId, &'static str) {
-    match seen.opcode {
-        Opcode::Snoop(_)
-        | Opcode::RetryAck
-        | Opcode::Comp
-        | Opcode::CompDBIDResp
-        | Opcode::PCrdGrant
-        | Opcode::CompData => match seen.target {
-            Some(node) => (node, "to"),
-            None => (seen.source, "of"),
-        },
-        Opcode::Request(_)
-        | Opcode::PCrdReturn
-        | Opcode::SnpResp
-        | Opcode::CompAck
-        | Opcode::SnpRespData
-        | Opcode::CopyBackWrData
-        | Opcode::Load
-        | Opcode::Store => (seen.source, "of"),
+    match &seen.flit {
+        Flit::Snoop { target, .. } | Flit::PCrdGrant { target, .. } => (*target, "to"),
+        Flit::RetryAck { transaction, .. }
+        | Flit::CompUC { transaction, .. }
+        | Flit::Comp { transaction, .. }
+        | Flit::CompDBIDResp { transaction, .. }
+        | Flit::CompData { transaction, .. } => (transaction.target, "to"),
+        Flit::Request { .. }
+        | Flit::PCrdReturn { .. }
+        | Flit::SnpResp { .. }
+        | Flit::CompAck { .. }
+        | Flit::SnpRespData { .. }
+        | Flit::CopyBackWrData { .. }
+        | Flit::Load { .. }
+        | Flit::Store { .. } => (seen.source, "of"),
     }
 }
 

@@ -113,7 +113,7 @@ fn write_unfinished<A: Allocator>(
 ) -> Result<(), NoMemory> {
     for data in unfinished {
         let line = LineName(data.line);
-        let lacking = data.words.iter().filter(|word| word.is_none()).count();
+        let lacking = data.beat.there.iter().filter(|there| !**there).count();
         kept(writeln!(text, "open: data at {line}, without {lacking} of its words"))?;
     }
     Ok(())

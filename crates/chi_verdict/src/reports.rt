@@ -1,9 +1,12 @@
 //! The report on a trace.
 
-ghost use Rattle.std.specs.Prelude.{◌≡◌, ◌≢◌, IfErr, IfOk, IfSome, None, Some, codes, not, string_bytes};
-ghost use Rattle.std.specs.List.{count_by, slice_get};
+ghost use Rattle.std.specs.Prelude.{◌≡◌, ◌≢◌, IfErr, IfOk, IfSome, List, None, Ok, Some, codes, string_bytes, true};
+ghost use Rattle.std.specs.List.{slice_get};
+ghost use Rattle.chi_trace.specs.Files.{trace_of};
+ghost use Rattle.chi_trace.specs.declared.flits.Seen.{Seen};
+ghost use Rattle.chi_verdict.specs.Readings.{IsReading};
 ghost use Rattle.chi_verdict.specs.Texts.{BeginsWith, IsOutcomeText, access_text, explained_line, malformed_front, flit_number_of, numbered, stop_front};
-ghost use Rattle.chi_verdict.specs.Verdicts.{IsFlitsReport, IsTraceJudged, IsReport, IsStop, is_access, is_seen_access, items_with, verdict_sizes};
+ghost use Rattle.chi_verdict.specs.Verdicts.{IsFlitsReport, IsTraceJudged, IsReport, IsStop, items_with, names_flits, verdict_sizes};
 ghost use Rattle.chi_verdict.specs.Ending.{explained_outcome, trace_outcome_of};
 ghost use Rattle.chi_trace.specs.declared.faults.TraceFault.TheVariants as faults;
 ghost use Rattle.chi_verdict.specs.declared.reports.TraceOutcome.TheVariants as outcomes;
@@ -16,15 +19,14 @@ use crate::lines::{LineTotals, Obstacle, explain_lines, sort_items};
 use crate::malformed::malformed_text;
 use crate::names::{LineName, NodeName, ObservedName, SeenName, joined, kept, requester_of};
 use crate::open_texts::write_open;
+use crate::readings::{Counts, Reading, is_access, read_resolved};
 use crate::unseen::fill_data;
 use chi_explain::{Observed, StoreListing};
 use chi_flit::{NoMemory, Profile};
 use chi_monitor::{FaultNames, FaultText, LineFault, allowed, explain_flits};
-use chi_resolution::{
-    CacheLine, IdFault, OpenKey, Options, Resolution, Resolved, Types, line_of, resolve,
-};
+use chi_resolution::{CacheLine, IdFault, OpenKey, Options, Resolution, Resolved, Types, line_of};
 use chi_slice::Config;
-use chi_trace::{Address, DbId, Opcode, Seen, TraceFault, read_trace};
+use chi_trace::{Address, DbId, Flit, Seen, TraceFault, Transaction, read_trace};
 use std::alloc::Allocator;
 use std::fmt;
 use std::fmt::Write;
@@ -112,38 +114,17 @@ fn config_of(types: Types) -> Option<Config>
     }
 }
 
-/// Whether it is a load or a store, and no flit.
-fn is_access(seen: &Seen) -> bool
-    ensures { result ≡ is_seen_access seen.now }
-{
-    matches!(seen.opcode, Opcode::Load | Opcode::Store)
-}
-
-/// How many flits a trace has.
-fn count_flits(seen: &[Seen]) -> usize
-    ensures { result ≡ count_by (λ one. not (is_seen_access one)) seen.now }
-{
-    seen.iter().filter(|seen| !is_access(seen)).count()
-}
-
-/// How many loads and stores a trace has.
-fn count_accesses(seen: &[Seen]) -> usize
-    ensures { result ≡ count_by is_seen_access seen.now }
-{
-    seen.iter().filter(|seen| is_access(seen)).count()
-}
-
 /// Explains what a resolution of a trace has, whose order is another one then: how much was explained, or what is told
 /// as the first that isn't.
 fn judge<A: Allocator + Copy>(
     alloc: A,
     config: &Config,
     stores: StoreListing,
-    seen: &[Seen],
+    counts: Counts,
     resolution: &mut Resolution<A>,
 ) -> Result<Result<TraceTotals, TraceStop>, NoMemory>
     ensures { IfOk result (λ judged.
-        IsTraceJudged config.now stores seen.now resolution.old.fault
+        IsTraceJudged config.now stores counts resolution.old.fault
         (items_with resolution.old.flits.items resolution.old.unfinished.items
         resolution.old.waiting.items) judged) }
 {
@@ -152,7 +133,7 @@ fn judge<A: Allocator + Copy>(
     close(&mut resolution.flits, &resolution.waiting)?;
     fill_data(alloc, config, stores, &mut resolution.flits, unfinished)?;
     match explain_lines(alloc, config, stores, &mut resolution.flits) {
-        Ok(totals) => Ok(total_of(seen, totals, fault)),
+        Ok(totals) => Ok(total_of(counts, totals, fault)),
         Err(obstacle) => match first_stop(obstacle, fault) {
             Some(stop) => Ok(Err(stop)),
             None => Err(NoMemory),
@@ -162,23 +143,21 @@ fn judge<A: Allocator + Copy>(
 
 /// How much is explained of a trace whose lines are: all, but where the ids or the ledger don't allow a flit.
 fn total_of(
-    seen: &[Seen],
+    counts: Counts,
     totals: LineTotals,
     fault: Option<IdFault>,
 ) -> Result<TraceTotals, TraceStop>
     ensures allowed { IfOk result (λ total. fault ≡ None) }
-    ensures flits { IfOk result
-        (λ total. total.flits ≡ count_by (λ one. not (is_seen_access one)) seen.now) }
-    ensures accesses { IfOk result
-        (λ total. total.accesses ≡ count_by is_seen_access seen.now) }
+    ensures flits { IfOk result (λ total. total.flits ≡ counts.flits) }
+    ensures accesses { IfOk result (λ total. total.accesses ≡ counts.accesses) }
     ensures actions { IfOk result (λ total. total.actions ≡ totals.actions) }
     ensures lines { IfOk result (λ total. total.lines ≡ totals.lines) }
     ensures err { IfErr result (IsStop fault) }
 {
     match fault {
         None => Ok(TraceTotals {
-            flits: count_flits(seen),
-            accesses: count_accesses(seen),
+            flits: counts.flits,
+            accesses: counts.accesses,
             actions: totals.actions,
             lines: totals.lines,
         }),
@@ -234,8 +213,8 @@ pub fn report_on<A: Allocator + Copy>(
     ensures { IfOk result (λ report.
         IsReport options asked bytes.now report.outcome (string_bytes report.text)) }
 {
-    match read_trace(alloc, bytes) {
-        Ok(seen) => report_on_flits(alloc, &seen, options, asked),
+    match read_resolved(alloc, bytes, options) {
+        Ok(reading) => report_on_reading(alloc, bytes, reading, options, asked),
         Err(fault) => malformed(alloc, bytes, fault),
     }
 }
@@ -256,36 +235,71 @@ fn malformed<A: Allocator + Copy>(
     Ok(TraceReport { outcome, text })
 }
 
-/// The report on the flits of a trace.
-fn report_on_flits<A: Allocator + Copy>(
+/// The report on a trace that was read and resolved.
+fn report_on_reading<A: Allocator + Copy>(
     alloc: A,
-    seen: &[Seen],
+    bytes: &[u8],
+    reading: Reading<A>,
     options: Options,
     asked: Asked,
 ) -> Result<TraceReport<A>, NoMemory>
-    ensures { IfOk result (λ report.
-        IsFlitsReport options asked seen.now report.outcome (string_bytes report.text)) }
+    ensures { IfOk result (λ report. (seen : List Seen) → trace_of bytes.now ≡ Ok seen
+        → IsReading options seen reading
+        → IsFlitsReport options asked seen report.outcome (string_bytes report.text)) }
 {
     let config = match config_of(options.types) {
         Some(config) => config,
         None => unreachable!(),
     };
-    let mut resolution = resolve(alloc, seen, options)?;
+    let mut resolution = reading.resolution;
     let is_open = is_anything_open(&resolution);
-    let nothing = is_nothing_there(seen, &resolution, asked.only);
-    let judged = judge(alloc, &config, options.stores, seen, &mut resolution)?;
+    let nothing = is_nothing_there(reading.counts.all, &resolution, asked.only);
+    let judged = judge(
+        alloc,
+        &config,
+        options.stores,
+        reading.counts,
+        &mut resolution,
+    )?;
+    let seen = flits_named(alloc, bytes, &judged, asked.only)?;
     sort_open(&mut resolution)?;
     if asked.only.is_some() {
         sort_items(&mut resolution.flits)?;
     }
     let trace = Trace {
-        seen,
+        seen: &seen,
         profile: profile_of(options.types),
         stores: options.stores,
         config,
         resolution: &resolution,
     };
     trace.report(alloc, judged, asked, is_open, nothing)
+}
+
+/// Whether the text names flits of the trace: a fault, or what is explained of a line.
+fn names_flits(judged: &Result<TraceTotals, TraceStop>, only: Option<Address>) -> bool
+    ensures { result ≡ names_flits judged.now only }
+{
+    judged.is_err() || only.is_some()
+}
+
+/// The flits of the trace, where the text names some: they are read once more, as none is kept.
+fn flits_named<A: Allocator + Copy>(
+    alloc: A,
+    bytes: &[u8],
+    judged: &Result<TraceTotals, TraceStop>,
+    only: Option<Address>,
+) -> Result<Vec<Seen, A>, NoMemory>
+    ensures { IfOk result (λ seen.
+        names_flits judged.now only ≡ true → trace_of bytes.now ≡ Ok seen.items) }
+{
+    if !names_flits(judged, only) {
+        return Ok(Vec::new(alloc));
+    }
+    match read_trace(alloc, bytes) {
+        Ok(seen) => Ok(seen),
+        Err(_) => Err(NoMemory),
+    }
 }
 
 /// Puts what is open in the order in which it was opened.
@@ -559,13 +573,13 @@ impl<A: Allocator + Copy> Trace<'_, A> {
 
     /// The line of a flit, where it is known: that of its address, or of the open id that it names.
     fn line_of_seen(&self, seen: &Seen) -> Option<CacheLine> {
-        match (seen.address, named_by(seen)) {
-            (Some(address), _) => Some(line_of(address)),
-            (None, Some(key)) => {
+        match told_by(seen) {
+            Place::Address(address) => Some(line_of(address)),
+            Place::Id(key) => {
                 let id = self.resolution.ids.iter().find(|id| id.key == key)?;
                 Some(id.line)
             }
-            (None, None) => None,
+            Place::Nothing => None,
         }
     }
 
@@ -581,7 +595,7 @@ impl<A: Allocator + Copy> Trace<'_, A> {
         }
         let reason = ReasonText {
             reason: fault.reason,
-            opcode: seen.opcode,
+            opcode: seen.flit.opcode(),
             open: &self.resolution.ids,
             requesters: &self.resolution.nodes.requesters,
             accounts: &self.resolution.accounts,
@@ -641,7 +655,7 @@ impl<A: Allocator + Copy> Trace<'_, A> {
         };
         write_seen(text, seen)?;
         let items = self.resolution.flits.as_slice();
-        let access = is_access(seen);
+        let access = is_access(&seen.flit);
         let Some(place) = items.iter().position(|item| item.at == at
             && is_done_by_processor(&item.flit) == access)
         else {
@@ -715,17 +729,46 @@ fn write_seen<A: Allocator>(text: &mut String<A>, seen: &Seen) -> Result<(), NoM
     kept(write!(text, "{name} {side} node {node}"))
 }
 
-/// The id that a response or data names.
-fn named_by(seen: &Seen) -> Option<OpenKey> {
+/// Where a flit is: what it tells of its line.
+#[derive(Clone, Copy)]
+enum Place {
+    Address(Address),
+    /// The line of this open id.
+    Id(OpenKey),
+    Nothing,
+}
+
+/// What a response or data tells of its line: its address, or the id that it names.
+fn told_in(transaction: &Transaction, key: OpenKey) -> Place {
+    match transaction.address {
+        Some(address) => Place::Address(address),
+        None => Place::Id(key),
+    }
+}
+
+/// What a flit tells of its line.
+fn told_by(seen: &Seen) -> Place {
     let (node, _) = requester_of(seen);
-    let txn = seen.txn?;
-    match seen.opcode {
-        Opcode::RetryAck | Opcode::Comp | Opcode::CompDBIDResp | Opcode::CompData => {
-            Some(OpenKey::Request(node, txn))
+    match &seen.flit {
+        Flit::Request { address, .. }
+        | Flit::Snoop { address, .. }
+        | Flit::Load { address, .. }
+        | Flit::Store { address, .. } => Place::Address(*address),
+        Flit::RetryAck { transaction, .. }
+        | Flit::CompUC { transaction, .. }
+        | Flit::Comp { transaction, .. }
+        | Flit::CompDBIDResp { transaction, .. }
+        | Flit::CompData { transaction, .. } => {
+            told_in(transaction, OpenKey::Request(node, transaction.txn))
         }
-        Opcode::SnpResp | Opcode::SnpRespData => Some(OpenKey::Snoop(node, txn)),
-        Opcode::CompAck | Opcode::CopyBackWrData => Some(OpenKey::Buffer(node, DbId(txn.0))),
-        _ => None,
+        Flit::SnpResp { transaction, .. } | Flit::SnpRespData { transaction, .. } => {
+            told_in(transaction, OpenKey::Snoop(node, transaction.txn))
+        }
+        Flit::CompAck { transaction } | Flit::CopyBackWrData { transaction, .. } => told_in(
+            transaction,
+            OpenKey::Buffer(node, DbId(transaction.txn.0)),
+        ),
+        Flit::PCrdReturn { .. } | Flit::PCrdGrant { .. } => Place::Nothing,
     }
 }
 

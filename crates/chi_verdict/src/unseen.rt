@@ -8,21 +8,36 @@ use chi_flit::{CompData, DatUp, Data, Msg, NoMemory};
 use chi_monitor::{PartSeen, words_of_run};
 use chi_resolution::{OpenData, Resolved};
 use chi_slice::Config;
+use chi_trace::Beat;
 use std::alloc::{AllocError, Allocator};
 
 /// The words that the beats have had, and these in place of those that lack.
-fn words_with(beats: &[Option<u64>; 8], others: &Data) -> Data
+fn words_with(beats: &Beat, others: &Data) -> Data
     ensures { result ≡ words_with beats.now others.now }
 {
     [
-        beats[0].unwrap_or(others[0]),
-        beats[1].unwrap_or(others[1]),
-        beats[2].unwrap_or(others[2]),
-        beats[3].unwrap_or(others[3]),
-        beats[4].unwrap_or(others[4]),
-        beats[5].unwrap_or(others[5]),
-        beats[6].unwrap_or(others[6]),
-        beats[7].unwrap_or(others[7]),
+        beats.word(0).unwrap_or(others[0]),
+        beats.word(1).unwrap_or(others[1]),
+        beats.word(2).unwrap_or(others[2]),
+        beats.word(3).unwrap_or(others[3]),
+        beats.word(4).unwrap_or(others[4]),
+        beats.word(5).unwrap_or(others[5]),
+        beats.word(6).unwrap_or(others[6]),
+        beats.word(7).unwrap_or(others[7]),
+    ]
+}
+
+/// The words that the beats have had, each where it is there.
+fn words_of(beats: &Beat) -> [Option<u64>; 8] {
+    [
+        beats.word(0),
+        beats.word(1),
+        beats.word(2),
+        beats.word(3),
+        beats.word(4),
+        beats.word(5),
+        beats.word(6),
+        beats.word(7),
     ]
 }
 
@@ -86,7 +101,7 @@ fn fill_one<A: Allocator>(items: &mut Vec<Resolved, A>, begun: &OpenData, others
     ensures { items.new.items ≡ filled_with begun.now others.now items.old.items }
 {
     if let Some(item) = items.get_mut(begun.place) {
-        item.flit = seen_with(&item.flit, words_with(&begun.words, others));
+        item.flit = seen_with(&item.flit, words_with(&begun.beat, others));
     }
 }
 
@@ -135,7 +150,7 @@ impl<A: Allocator> LineParts<A> {
             self.place = place;
         }
         if let Some(data) = unfinished.iter().find(|data| data.place == at) {
-            let words = data.words;
+            let words = words_of(&data.beat);
             self.parts.push(PartSeen { place, words })?;
         }
         self.seen.push(item.flit)?;

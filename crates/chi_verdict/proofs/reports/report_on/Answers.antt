@@ -1,18 +1,15 @@
 -- The flits are those of the trace, or the fault is its first.
-use Rattle.std.proofs.Common.{List, Result, subst, sym}
 use Rattle.std.specs.Prelude.{string_bytes}
-use Rattle.chi_trace.specs.declared.faults.TraceFault.{TraceFault}
-use Rattle.chi_trace.specs.declared.flits.Seen.{Seen}
-use Rattle.chi_verdict.specs.Verdicts.{IsFlitsReport, IsReportOn}
-use Rattle.chi_verdict.proofs.VerdictLemmas.{carried, malformed_report}
+use Rattle.chi_trace.specs.Files.{trace_of}
+use Rattle.chi_verdict.specs.Verdicts.{IsReport}
+use Rattle.chi_verdict.proofs.VerdictLemmas.{carried, malformed_report, report_as}
 use Rattle.chi_verdict.proofs.reports.report_on.Goals as goal
 
 pub returns-in-Ok : goal.returns-in-Ok
 returns-in-Ok g c =
-    carried (λ report. IsFlitsReport c.args.options c.args.asked _ report.outcome (string_bytes report.text)) _ c.report_on_flits.result
-    (λ report is. subst (λ (read : Result (List Seen) TraceFault). IsReportOn c.args.options c.args.asked read report.outcome (string_bytes report.text)) (sym c.in-Ok.ensures)
-    (subst (λ (seen : List Seen). IsFlitsReport c.args.options c.args.asked seen report.outcome (string_bytes report.text)) c.deref.ensures.value is))
-    c.report_on_flits.ensures
+    carried _ (λ report. IsReport c.args.options c.args.asked c.args.bytes.now report.outcome (string_bytes report.text)) c.report_on_reading.result
+    (λ report is. report_as c.args.options c.args.asked c.in-Ok.reading (trace_of c.args.bytes.now) report.outcome (string_bytes report.text) c.in-Ok.ensures is)
+    c.report_on_reading.ensures
 
 pub returns-in-Err : goal.returns-in-Err
 returns-in-Err g c =
