@@ -1,9 +1,8 @@
 -- Loads and stores that wait, put behind the items one after the other.
-use Rattle.std.proofs.Common.{◌≡◌, ◌∙◌, ◌+◌, ◌++◌, ◌<◌, ◌≤◌, ℕ, Bool, true, false, List, [], ◌∷◌, add-one, ap, append_assoc, drop, drop-cons, get_or, if◌then◌else◌, length, refl, subst, sym, take}
+use Rattle.std.proofs.Common.{◌≡◌, ◌∙◌, ◌+◌, ◌++◌, ◌<◌, ◌≤◌, ℕ, List, [], ◌∷◌, add-one, ap, append_assoc, drop, drop-cons, get_or, length, refl, sym, take}
 use Rattle.std.proofs.lemmas.List.{append-nil, drop_all, take_more}
-use Rattle.std.specs.List.{list_any}
 use Rattle.chi_resolution.specs.declared.lines.Resolved.{Resolved}
-use Rattle.chi_verdict.specs.Closing.{ack_for, behind_ack, closed, closing, is_same_wait}
+use Rattle.chi_verdict.specs.Closing.{behind_ack, closed, closing}
 
 -- what was put so far, with what is still to be put, is all
 abbrev pub IsClosedSoFar : List Resolved → ℕ → List Resolved → List Resolved → Type 0

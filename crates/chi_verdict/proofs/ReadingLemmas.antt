@@ -1,13 +1,12 @@
 -- A trace that is read a line at a time is the trace that the grammar reads, counted and resolved.
-use Rattle.std.proofs.Common.{◌≡◌, ℕ, ◌+◌, ◌==◌, ◌<◌, ◌≤◌, nat_lt, not, Bool, true, false, cond, List, [], ◌∷◌, ◌++◌, length, Option, Some, None, Result, Ok, Err, refl, sym, ap, subst, ◌∙◌, append_assoc, arith}
-use Rattle.std.specs.List.{count_by, sum_by}
-use Rattle.std.proofs.lemmas.Bool.Decides.{nat_tests}
+use Rattle.std.proofs.Common.{◌≡◌, ℕ, ◌+◌, ◌==◌, not, Bool, true, false, cond, List, [], ◌∷◌, ◌++◌, length, Option, Some, None, Result, Ok, Err, refl, sym, ap, subst, ◌∙◌, append_assoc, arith}
+use Rattle.std.specs.List.{count_by}
 use Rattle.std.proofs.lemmas.List.{append-nil, length-append}
 use Rattle.std.proofs.lemmas.List.Sums.{sum_by-append}
 use Rattle.chi_script.specs.Files.{lines_of}
 use Rattle.chi_script.proofs.LineLemmas.{parts_of}
 use Rattle.chi_trace.specs.Faults.{TraceFails}
-use Rattle.chi_trace.specs.Files.{◌>>=◌, flits_at, one_of, trace_flits, trace_of}
+use Rattle.chi_trace.specs.Files.{◌>>=◌, one_of, trace_flits}
 use Rattle.chi_trace.specs.Flits.{flit_at}
 use Rattle.chi_trace.specs.Words.{blank_words}
 use Rattle.chi_trace.specs.declared.faults.TraceFault.{TraceFault}
@@ -19,8 +18,8 @@ use Rattle.chi_resolution.specs.declared.resolution.Options.{Options}
 use Rattle.chi_resolution.proofs.Steps.{resolution_more}
 use Rattle.chi_verdict.specs.declared.readings.Counts.{Counts}
 use Rattle.chi_verdict.specs.declared.readings.Reading.{Reading}
-use Rattle.chi_verdict.specs.Readings.{IsReadAs, IsReading, IsReadingOf, IsResolvedTo, ReadSoFar, lines_read, nothing_read, read_if, read_line, read_more}
-use Rattle.chi_verdict.specs.Counts.{AreCounts, counted, is_access, is_seen_access}
+use Rattle.chi_verdict.specs.Readings.{IsReadAs, IsReadingOf, IsResolvedTo, ReadSoFar, lines_read, nothing_read, read_if, read_line, read_more}
+use Rattle.chi_verdict.specs.Counts.{AreCounts, is_access, is_seen_access}
 
 -- one line that a line end closes, and what follows it
 one_line : (options : Options) (n : ℕ) (rest line after : List ℕ) (state : ReadSoFar) → lines_of rest ≡ line ∷ lines_of after

@@ -1,5 +1,5 @@
 -- What is said of a report, from what its parts say.
-use Rattle.std.proofs.Common.{◌≡◌, ◌≢◌, ◌∙◌, ◌<◌, ℕ, Bool, true, false, not, List, length, nat_lt, take, Option, Some, None, Result, Ok, Err, IfErr, IfOk, IfSome, refl, subst, sym, ap, arith, if◌then◌else◌}
+use Rattle.std.proofs.Common.{◌≡◌, ◌≢◌, ◌∙◌, ◌<◌, ℕ, Bool, true, false, List, length, nat_lt, take, Option, Some, None, Result, Ok, Err, IfOk, IfSome, refl, subst, sym, ap, arith, if◌then◌else◌}
 use Rattle.std.specs.Map.{values_of}
 use Rattle.std.proofs.lemmas.Bool.{lt-ltb, ltb-false, ltb-true}
 use Rattle.std.proofs.lemmas.List.{length-take, take_all}
@@ -27,14 +27,11 @@ use Rattle.chi_verdict.specs.declared.reports.TraceOutcome.{TraceOutcome}
 use Rattle.chi_verdict.specs.declared.reports.TraceOutcome.TheVariants.{Malformed}
 use Rattle.chi_verdict.specs.declared.reports.TraceStop.{TraceStop}
 use Rattle.chi_verdict.specs.declared.reports.TraceTotals.{TraceTotals}
-use Rattle.chi_verdict.specs.Closing.{closed}
 use Rattle.chi_verdict.specs.Ending.{explained_outcome, is_anything_open, is_nothing_of, is_nothing_there, trace_outcome_of}
 use Rattle.chi_verdict.specs.Counts.{AreCounts}
-use Rattle.chi_verdict.specs.Lines.{AreLinesExplained}
 use Rattle.chi_verdict.specs.Readings.{IsReadAs, IsReading}
 use Rattle.chi_verdict.specs.Texts.{BeginsWith, IsOutcomeText, malformed_front}
-use Rattle.chi_verdict.specs.Unseen.{AreFilled}
-use Rattle.chi_verdict.specs.Verdicts.{IsFlitsReport, IsTraceJudged, IsReport, IsReportOn, IsStop, Items, is_table_open, items_of_table, items_with, names_flits, verdict_sizes}
+use Rattle.chi_verdict.specs.Verdicts.{IsFlitsReport, IsTraceJudged, IsReport, IsReportOn, Items, is_table_open, items_of_table, items_with, names_flits, verdict_sizes}
 
 -- the same fact in other words
 pub carried : {X E : Type 0} (P Q : X → Type 0) (r : Result X E) → ((x : X) → P x → Q x) → IfOk r P → IfOk r Q
@@ -141,7 +138,7 @@ report_as options asked reading (Err fault) outcome text is report = absurd is
 
 -- the flits that are named are those of the trace
 pub same_flits : (file : List ℕ) (seen named : List Seen) → trace_of file ≡ Ok seen → trace_of file ≡ Ok named → named ≡ seen
-same_flits file seen named e f = let same : Ok {E = TraceFault} named ≡ Ok seen = sym f ∙ e in cc
+same_flits file seen named e f = let same : ◌≡◌ {A = Result (List Seen) TraceFault} (Ok named) (Ok seen) = sym f ∙ e in cc
 
 pub for_all : {R E : Type 0} (r : Result R E) (P P' : List Seen → Type 0) (Q : List Seen → R → Type 0) → ((seen : List Seen) → P seen → P' seen → IfOk r (Q seen)) → IfOk r (λ x. (seen : List Seen) → P seen → P' seen → Q seen x)
 for_all (Ok x) P P' Q f = f

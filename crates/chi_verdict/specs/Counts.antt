@@ -1,5 +1,5 @@
 -- How many flits, loads and stores a trace has (docs/TRACES.md, "What is printed").
-use Rattle.std.specs.Prelude.{◌≡◌, ℕ, ◌+◌, not, Bool, true, false, List, if◌then◌else◌, length}
+use Rattle.std.specs.Prelude.{◌≡◌, ◌+◌, not, Bool, true, false, List, if◌then◌else◌, length}
 use Rattle.std.specs.List.{count_by}
 use Rattle.chi_trace.specs.declared.flits.Flit.{Flit}
 use Rattle.chi_trace.specs.declared.flits.Flit.TheVariants as flits

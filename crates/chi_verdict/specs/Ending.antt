@@ -1,5 +1,5 @@
 -- What is open where a trace ends, and what is told of one that is explained (docs/TRACES.md, "What is printed").
-use Rattle.std.specs.Prelude.{ℕ, ◌||◌, ◌==◌, ◌++◌, Bool, true, false, not, List, length, nat_lt, Option, Some, None, Result, Ok, Err}
+use Rattle.std.specs.Prelude.{ℕ, ◌||◌, ◌==◌, Bool, true, false, not, List, length, nat_lt, Option, Some, None, Result, Ok, Err}
 use Rattle.std.specs.List.{list_any}
 use Rattle.chi_trace.specs.declared.fields.Address.{Address}
 use Rattle.chi_trace.specs.declared.flits.Seen.{Seen}

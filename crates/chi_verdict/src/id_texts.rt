@@ -141,13 +141,9 @@ impl ReasonText<'_> {
         }
     }
 
-    /// What has to do with nodes and fields.
+    /// What has to do with nodes and fields: the last of the reasons, a RESP outside the profile among them.
     fn write_field<W: fmt::Write>(&self, f: &mut fmt::Formatter<W>) -> fmt::Result {
         match self.reason {
-            IdReason::Form(_) => {
-                let forms = forms(self.opcode);
-                write!(f, "no such RESP is in the profile; allowed: {forms}")
-            }
             IdReason::NinthRequester(node) => {
                 let name = NodeName(node);
                 write!(f, "node {name} is a ninth requester; allowed: ")?;
@@ -171,7 +167,10 @@ impl ReasonText<'_> {
                     "ADDR is {address:x}, and its id is of the line at {line}; allowed: {line}, -"
                 )
             }
-            _ => f.write_str("a field is missing; allowed: all that its opcode has"),
+            _ => {
+                let forms = forms(self.opcode);
+                write!(f, "no such RESP is in the profile; allowed: {forms}")
+            }
         }
     }
 

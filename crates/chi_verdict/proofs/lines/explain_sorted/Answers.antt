@@ -1,4 +1,4 @@
-use Rattle.std.proofs.Common.{arith, subst, sym}
+use Rattle.std.proofs.Common.{arith, subst}
 use Rattle.std.proofs.lemmas.List.{take_all}
 use Rattle.chi_verdict.specs.Lines.{AreLinesExplained, in_order}
 use Rattle.chi_verdict.proofs.LineLemmas.{front_step, no_lines, order_length, rest_in}
