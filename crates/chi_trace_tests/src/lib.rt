@@ -9,6 +9,8 @@ mod credits;
 #[cfg(test)]
 mod faults;
 #[cfg(test)]
+mod forgetting;
+#[cfg(test)]
 mod grammar;
 #[cfg(test)]
 mod ids;
