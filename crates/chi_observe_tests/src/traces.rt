@@ -1,7 +1,7 @@
 //! Short traces, and what is told of them.
 
-use chi_script::{Fault, MemoryInput, MemoryOutput};
 use chi_observe::{CreditTypes, WatchOptions, observe};
+use chi_script::{Fault, MemoryInput, MemoryOutput};
 
 /// A read, and one flit of another that the home answers while the first holds the line alone.
 const TRACE: &[u8] = b"REQ 8 40 1 ReadShared 1040 - - 1 - -\n\
