@@ -11,9 +11,9 @@ use Rattle.chi_observer.specs.Worlds.{World, Clean, Sends}
 use Rattle.chi_observer.specs.Observed.{Observed, Sound, Unstored, Meaning, fits, takes, differs, next}
 use Rattle.chi_observer.specs.Laws.{MeaningIsCoherent, CacheFlitsAreTaken, CacheFlitsLead}
 use Rattle.chi_observer.proofs.Finite.{no, left, right, both, implies, follow}
-use Rattle.chi_observer.proofs.Facts.{surely_dirty, unstored_clean, sent_data, sent_whole, taken_well, forward, below, rival, or_here, or_there, beside_writing, turned, flip, contrary, implied}
+use Rattle.chi_observer.proofs.Facts.{surely_dirty, unstored_clean, sent_data, sent_whole, taken_well, forward, below, rival, or_here, or_there, beside_writing, turned, flip, implied}
 use Rattle.chi_observer.proofs.Words.{known_fits, shown_fits, home_is, current_is}
-use Rattle.chi_observer.proofs.Put.{here, split, everywhere, at_it, at_else}
+use Rattle.chi_observer.proofs.Put.{here, split, everywhere, at_else}
 
 -- where nobody is told unique and dirty, and nobody has stored, the home has the value
 agreed_by : (o : Observed) (w : World) → Sound o → Meaning o w → (c : Bool) → o.current ≡ c → ((k : ℕ) → k < 32 → same (most (o.told k)) UniqueDirty ≡ false) → Unstored o w → w.last ≡ w.home
@@ -97,7 +97,7 @@ module _ (o : Observed) (f : CacheFlit) (w w' : World) (sound : Sound o) (low : 
   fitting : fits_told f.act d t ≡ true
   fitting = left _ _ facts
 
-  facts2 : (implies (not r) (implies (fresh d t s) (fresh d' t' s')) && (implies (has_data f.act) (implies (not r) (not (fresh d t s))) && implies (holds_data s'.copy) (holds_data s.copy))) ≡ true
+  facts2 : (implies (not r) (not (fresh d t s)) && implies (holds_data s'.copy) (holds_data s.copy)) ≡ true
   facts2 = right (reach d' t' s' && may t'.told s'.copy) _ (right (fits_told f.act d t) _ facts)
 
   reached : reach d' t' s' ≡ true
@@ -107,26 +107,27 @@ module _ (o : Observed) (f : CacheFlit) (w w' : World) (sound : Sound o) (low : 
   pub settled_sent : may ((next o f).told n).told s'.copy ≡ true
   settled_sent = subst (λ (x : Known). may x.told s'.copy ≡ true) (sym (here n t' o.told)) (right (reach d' t' s') _ (left (reach d' t' s' && may t'.told s'.copy) _ (right (fits_told f.act d t) _ facts)))
 
-  keeps : r ≡ false → fresh d' t' s' ≡ false → fresh d t s ≡ false
-  keeps e = contrary (fresh d t s) (fresh d' t' s') (follow (not r) _ (left _ _ facts2) (flip r e))
-
-  facts3 : (implies (has_data f.act) (implies (not r) (not (fresh d t s))) && implies (holds_data s'.copy) (holds_data s.copy)) ≡ true
-  facts3 = right (implies (not r) (implies (fresh d t s) (fresh d' t' s'))) _ facts2
+  still : r ≡ false → fresh d t s ≡ false
+  still e = turned (fresh d t s) (follow (not r) _ (left _ (implies (holds_data s'.copy) (holds_data s.copy)) facts2) (flip r e))
 
   had_data : holds_data s'.copy ≡ true → holds_data s.copy ≡ true
-  had_data = follow (holds_data s'.copy) (holds_data s.copy) (right (implies (has_data f.act) (implies (not r) (not (fresh d t s)))) _ facts3)
-
-  still : has_data f.act ≡ true → r ≡ false → fresh d t s ≡ false
-  still h e = turned (fresh d t s) (follow (not r) _ (follow (has_data f.act) _ (left _ (implies (holds_data s'.copy) (holds_data s.copy)) facts3) h) (flip r e))
+  had_data = follow (holds_data s'.copy) (holds_data s.copy) (right (implies (not r) (not (fresh d t s))) _ facts2)
 
   pub taken_here : takes o f ≡ true
-  taken_here = both _ _ send.allowed (both (fits_told f.act d t) _ fitting (shown_fits (has_data f.act) r o.current o.home f.shown (λ h e c u k. known_is h (still h e) c u k)))
+  taken_here = both _ _ send.allowed (both (fits_told f.act d t) _ fitting (shown_fits (has_data f.act) r o.current o.home f.shown (λ h e c u k. known_is h (still e) c u k)))
 
-  before : r ≡ false → Unstored (next o f) w' → Unstored o w
-  before e u = split (λ k. k < 32 → fresh (o.public.due k) (o.told k) (w.state k) ≡ false) n
-      (λ _. keeps e (at_it (λ k x y. k < 32 → fresh x y (w'.state k) ≡ false) n d' t' o.public.due o.told u low))
-      (λ k h lk. subst (λ x. fresh (o.public.due k) (o.told k) x ≡ false) (send.others.state k lk h)
-      (at_else (λ k x y. k < 32 → fresh x y (w'.state k) ≡ false) n d' t' o.public.due o.told u k h lk))
+  -- nobody else has stored
+  pub Calm : Type 0
+  Calm = (k : ℕ) → k ≢ n → k < 32 → fresh (o.public.due k) (o.told k) (w.state k) ≡ false
+
+  before : r ≡ false → Calm → Unstored o w
+  unfolding Calm
+  before e u = split (λ k. k < 32 → fresh (o.public.due k) (o.told k) (w.state k) ≡ false) n (λ _. still e) u
+
+  calm_of : Unstored (next o f) w' → Calm
+  unfolding Calm
+  calm_of u k h lk = subst (λ x. fresh (o.public.due k) (o.told k) x ≡ false) (send.others.state k lk h)
+      (at_else (λ k x y. k < 32 → fresh x y (w'.state k) ≡ false) n d' t' o.public.due o.told u k h lk)
 
   last_by : writes f.act ≡ false → w'.last ≡ w.last
   last_by e = send.last ∙ ap (λ b. if b then f.shown else w.last) e
@@ -147,7 +148,7 @@ module _ (o : Observed) (f : CacheFlit) (w w' : World) (sound : Sound o) (low : 
   else_words k h lk v true e = no (sym (alone_by e k h lk) ∙ v)
   else_words k h lk v false e = m.words k lk v ∙ sym (last_by e)
 
-  current_after_it : (next o f).current ≡ true → Unstored (next o f) w' → (b : Bool) → writes f.act ≡ b → w'.last ≡ w'.home
+  current_after_it : (next o f).current ≡ true → Calm → (b : Bool) → writes f.act ≡ b → w'.last ≡ w'.home
   current_after_it c u true e = send.last ∙ ap (λ b. if b then f.shown else w.last) e ∙ sym (send.home ∙ ap (λ b. if b then f.shown else w.home) (or_there (has_data f.act) _ e))
   current_after_it c u false e = last_by e
       ∙ current_is (has_data f.act) r o.current f.shown w.home w.last (λ h. sym (shown_last h)) (λ e c. m.current c (before e u)) (sym (ap (λ b. if b then true else (if r then false else o.current)) (tells_same e)) ∙ c)
@@ -164,8 +165,12 @@ module _ (o : Observed) (f : CacheFlit) (w w' : World) (sound : Sound o) (low : 
         (λ lk v. here_words (writes f.act) refl v)
         (λ k h lk v. send.others.words k lk h ∙ else_words k h lk (subst (λ (x : Held). holds_data x.copy ≡ true) (send.others.state k lk h) v) (writes f.act) refl);
     home = λ v h. send.home ∙ home_is (tells_words f.act) f.shown w.home o.home v m.home h;
-    current = λ c u. current_after_it c u (writes f.act) refl;
+    current = λ c u. current_after_it c (calm_of u) (writes f.act) refl;
   }
+
+  pub last_here : (next o f).current ≡ true → ((k : ℕ) → k ≢ n → k < 32 → fresh (o.public.due k) (o.told k) (w.state k) ≡ false) → w'.last ≡ w'.home
+  unfolding Calm
+  last_here c u = current_after_it c u (writes f.act) refl
 
 pub taken : CacheFlitsAreTaken
 taken o f w w' sound low m send = taken_here o f w w' sound low m send

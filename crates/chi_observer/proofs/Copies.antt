@@ -7,14 +7,14 @@ use Rattle.std.proofs.lemmas.Bool.{eqb-true}
 use Rattle.chi_observer.specs.declared.flits.HomeFlit.{HomeFlit}
 use Rattle.chi_observer.specs.Copies.{Copy, Held, holds_data, is_unique, is_dirty, same}
 use Rattle.chi_observer.specs.Copies.Copy.{Invalid, UniqueDirty}
-use Rattle.chi_observer.specs.Rules.{is_free, is_due, gives_data, makes, needs_alone, needs_quiet, granted, fills, due_granted}
-use Rattle.chi_observer.specs.Tables.{Known, most, may as told_may, reach, fresh, goes_with, told_granted, fills_told}
+use Rattle.chi_observer.specs.Rules.{is_free, is_due, gives_copy, makes, needs_alone, needs_quiet, granted, fills, shows, due_granted}
+use Rattle.chi_observer.specs.Tables.{Known, most, may as told_may, reach, fresh, goes_with, told_granted, fills_told, shows_told}
 use Rattle.chi_observer.specs.Worlds.{World, home_may, all_below, put}
 use Rattle.chi_observer.specs.Observed.{Observed, Sound, Meaning, is_beside, goes, takes_home, next_home}
 use Rattle.chi_observer.specs.Laws.{HomeFlitsKeepSound}
 use Rattle.chi_observer.proofs.Finite.{no, left, right, both, implies, follow}
 use Rattle.chi_observer.proofs.Facts.{turned, flip, and_false, contrary, goes_back, same_truth, same_truth_is}
-use Rattle.chi_observer.proofs.Grants.{made_told, keeps_dirty, given_well, given, lone, filled}
+use Rattle.chi_observer.proofs.Grants.{made_told, keeps_dirty, given_well, given, shown_so, lone, filled}
 use Rattle.chi_observer.proofs.Cache.{agreed}
 use Rattle.chi_observer.proofs.Put.{unlike, differ, here, there, split, pairwise}
 
@@ -120,6 +120,9 @@ module _ (o : Observed) (g : HomeFlit) (low : g.agent.0 < 32) (may : home_may o.
     facts : given_well g.grant d q t s ≡ true
     facts = given g.grant d q t s (both _ _ fitting r)
 
+    pub shows_same : shows_told g.grant t ≡ shows g.grant s
+    shows_same = shown_so g.grant d q t s fitting r
+
     pub reached : reach d' t' (granted g.grant d s) ≡ true
     reached = left _ _ (left _ _ facts)
 
@@ -169,7 +172,7 @@ module _ (o : Observed) (g : HomeFlit) (w : World) (sound : Sound o) (low : g.ag
       let rest : (k : ℕ) → k ≢ at' → k < 32 → is_unique (most (o.told k)) ≡ false = λ k h lk. lone (told_granted g.grant (o.public.due at') (o.told at')) (o.told k) valid (goes_else o g sound low takes k h lk) in
       agreed o w sound m
       (split (λ k. k < 32 → same (most (o.told k)) UniqueDirty ≡ false) at'
-      (λ _. not_dirty (gives_data g.grant) (o.told at') full)
+      (λ _. not_dirty (gives_copy g.grant) (o.told at') full)
       (λ k h lk. not_unique (most (o.told k)) (rest k h lk)))
       (split (λ k. k < 32 → fresh (o.public.due k) (o.told k) (w.state k) ≡ false) at'
       (λ _. still o g low may' (w.state at') (m.told at' low) f)

@@ -108,9 +108,8 @@ no_data NonCopyBackWrData h = refl
 abbrev pub taken_well : Act → Due → Known → Held → Bool → Held → Bool
 taken_well a d t s b s' = fits_told a d t
     && ((reach (due_after a d) (told_after a d t b) s' && may (told_behind a d t.told) s'.copy)
-    && (implies (not (renews a d t)) (implies (fresh d t s) (fresh (due_after a d) (told_after a d t b) s'))
-    && (implies (has_data a) (implies (not (renews a d t)) (not (fresh d t s)))
-    && implies (holds_data s'.copy) (holds_data s.copy))))
+    && (implies (not (renews a d t)) (not (fresh d t s))
+    && implies (holds_data s'.copy) (holds_data s.copy)))
 
 forward_table : Act → Due → Known → Held → Bool → Bool
 forward_table a d t s b = implies (reach d t s && implies b (has_data a && fresh d t s)) (on_some (acts a d s) (taken_well a d t s b))

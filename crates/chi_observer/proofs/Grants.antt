@@ -1,6 +1,7 @@
 -- The tables of the home's flits fit the others.
 use Rattle.std.proofs.Common.{◌≡◌, refl, sym, subst}
 use Rattle.std.specs.Prelude.{Bool, true, false, ◌&&◌, ◌||◌, not, Option, if◌then◌else◌}
+use Rattle.chi_flit.specs.declared.state.State.TheVariants as states
 use Rattle.chi_observer.specs.declared.kinds.Snoop.{Snoop}
 use Rattle.chi_observer.specs.declared.told.Told.{Told}
 use Rattle.chi_observer.specs.declared.told.Told.TheVariants.{I, SCOrI, UC, UCOrI, UCOrUCE, UD, SD}
@@ -9,11 +10,11 @@ use Rattle.chi_observer.specs.declared.flits.Grant.{Grant}
 use Rattle.chi_observer.specs.declared.flits.Grant.TheVariants.{RetryAck, Snp, CompData, CompUC, CompSC, CompI, CompDBIDResp}
 use Rattle.chi_observer.specs.Copies.{Copy, Held, holds_data, is_unique, same, compatible}
 use Rattle.chi_observer.specs.Copies.Copy.{Invalid, SharedClean, UniqueClean, UniqueEmpty, UniqueDirty, SharedDirty}
-use Rattle.chi_observer.specs.Rules.{is_due, needs_quiet, makes, is_upgraded, is_written_whole, due_granted, upgraded, copy_granted, granted, fills}
-use Rattle.chi_observer.specs.Tables.{Known, strongest, most, may, reach, fresh, goes_with, told_granted, told_upgraded, fills_told}
+use Rattle.chi_observer.specs.Rules.{is_due, needs_quiet, makes, is_upgraded, is_written_whole, due_granted, upgraded, copy_granted, granted, gives_copy, gives_data, fills, shows}
+use Rattle.chi_observer.specs.Tables.{Known, strongest, most, may, reach, fresh, goes_with, told_granted, told_upgraded, fills_told, shows_told}
 use Rattle.chi_observer.proofs.Finite.{no, left, right, implies, follow}
 use Rattle.chi_observer.proofs.Spots.{all_gifts, held_gifts, each_gift, told_gifts, each_told_gift, all_told_pairs, each_told_pair}
-use Rattle.chi_observer.proofs.Facts.{turned, same_truth, same_is, same_held, of_form, is_settled}
+use Rattle.chi_observer.proofs.Facts.{turned, same_truth, same_truth_is, same_is, same_held, of_form, is_settled}
 
 -- forward
 abbrev pub given_well : Grant → Due → Option Snoop → Known → Held → Bool
@@ -33,6 +34,43 @@ given_holds = refl
 pub given : (g : Grant) (d : Due) (q : Option Snoop) (t : Known) (s : Held) → (is_due g d q && reach d t s) ≡ true → given_well g d q t s ≡ true
 unfolding given_table
 given g d q t s h = follow _ _ (each_gift given_table given_holds g d q (left _ _ h) t s) (right (is_due g d q) _ h)
+
+-- data that fill a copy are the home's own
+pub copy_data : (g : Grant) (b : Bool) → (gives_copy g && b) ≡ true → (gives_data g && (not (gives_copy g) || b)) ≡ true
+copy_data RetryAck b h = no h
+copy_data (Snp x) b h = no h
+copy_data (CompData x) b h = also (gives_copy (CompData x)) b h
+  where
+    also : (a b : Bool) → (a && b) ≡ true → (not a || b) ≡ true
+    also true b h = h
+    also false b h = no h
+copy_data CompUC b h = no h
+copy_data CompSC b h = no h
+copy_data CompI b h = no h
+copy_data CompDBIDResp b h = no h
+
+shows_table : Grant → Due → Option Snoop → Known → Held → Bool
+shows_table g d q t s = implies (reach d t s) (same_truth (shows_told g t) (shows g s))
+
+shows_holds : all_gifts (held_gifts shows_table) ≡ true
+unfolding shows_table
+shows_holds = refl
+
+pub shown_so : (g : Grant) (d : Due) (q : Option Snoop) (t : Known) (s : Held) → is_due g d q ≡ true → reach d t s ≡ true → shows_told g t ≡ shows g s
+unfolding shows_table
+shown_so g d q t s h r = same_truth_is _ _ (follow (reach d t s) _ (each_gift shows_table shows_holds g d q h t s) r)
+
+-- but for a snoop its agent's copy can't have been stored to
+calm_table : Grant → Due → Option Snoop → Known → Held → Bool
+calm_table g d q t s = needs_quiet g || not (fresh d t s)
+
+calm_holds : all_gifts (held_gifts calm_table) ≡ true
+unfolding calm_table
+calm_holds = refl
+
+pub calm_given : (g : Grant) (d : Due) (q : Option Snoop) (t : Known) (s : Held) → is_due g d q ≡ true → (needs_quiet g || not (fresh d t s)) ≡ true
+unfolding calm_table
+calm_given g d q t s h = each_gift calm_table calm_holds g d q h t s
 
 -- and back: the copy before
 abbrev pub empty_before : Told → Copy
@@ -58,6 +96,7 @@ upgraded_from t UniqueDirty = dirty_before t
 upgraded_from t s' = s'
 
 abbrev pub form_before : Grant → Due → Told → Copy → Copy
+form_before (CompData states.I) d t s' = s'
 form_before (CompData form) d t s' = strongest t
 form_before CompUC d t s' = if makes CompUC d then strongest t else (if is_upgraded d then upgraded_from t s' else s')
 form_before CompDBIDResp d t s' = if is_written_whole d then strongest t else s'

@@ -5,16 +5,16 @@ use Rattle.chi_observer.specs.declared.flits.Due.{Due}
 use Rattle.chi_observer.specs.declared.flits.HomeFlit.{HomeFlit}
 use Rattle.chi_observer.specs.Copies.{Held, holds_data}
 use Rattle.chi_observer.specs.Rules.{fills, granted, makes, due_granted}
-use Rattle.chi_observer.specs.Tables.{Known, reach, fresh, told_granted, fills_told}
+use Rattle.chi_observer.specs.Tables.{Known, reach, fresh, told_granted, shows_told}
 use Rattle.chi_observer.specs.Worlds.{World, Gives, Informed, home_may}
 use Rattle.chi_observer.specs.Observed.{Observed, Sound, Unstored, Meaning, takes_home, next_home}
 use Rattle.chi_observer.specs.Laws.{HomeFlitsAreSafe, HomeFlitsLead}
 use Rattle.chi_observer.proofs.Finite.{no, left, right}
 use Rattle.chi_observer.proofs.Words.{some_is}
-use Rattle.chi_observer.proofs.Copies.{home_kept, goes_else, gone_else, reached, unfresh, fills_same, had_data, filled_last}
+use Rattle.chi_observer.proofs.Copies.{home_kept, goes_else, gone_else, reached, unfresh, shows_same, had_data, filled_last}
 use Rattle.chi_observer.proofs.Put.{split, everywhere, at_it, at_else}
 use Rattle.chi_observer.proofs.Facts.{none_left, turned, below, beside_unique}
-use Rattle.chi_observer.proofs.Grants.{made_copy}
+use Rattle.chi_observer.proofs.Grants.{copy_data, made_copy}
 use Rattle.chi_observer.proofs.Cache.{coherent}
 
 value_cases : (e : Bool) (x : List ℕ) (o : Option (List ℕ)) (v : List ℕ) → (if e then Some x else o) ≡ Some v → ((e ≡ true) × (x ≡ v)) ⊎ ((e ≡ false) × (o ≡ Some v))
@@ -44,7 +44,7 @@ module _ (o : Observed) (g : HomeFlit) (w w' : World) (sound : Sound o) (low : g
   may = left _ _ takes
 
   words_after : makes g.grant d ≡ false → holds_data (w'.state n).copy ≡ true → (b : Bool) → fills g.grant s ≡ b → (if fills g.grant s then g.shown else w.words n) ≡ w.last
-  words_after k v true f = ap (λ b. if b then g.shown else w.words n) f ∙ sym (filled_last o g w sound low takes m f ∙ informed f)
+  words_after k v true f = ap (λ b. if b then g.shown else w.words n) f ∙ sym (filled_last o g w sound low takes m f ∙ informed (copy_data g.grant _ f))
   words_after k v false f = ap (λ b. if b then g.shown else w.words n) f ∙ m.words n low (had_data o g low may s (m.told n low) (subst (λ (x : Held). holds_data x.copy ≡ true) gives.state v) f k)
 
   here_words : holds_data (w'.state n).copy ≡ true → (b : Bool) → makes g.grant d ≡ b → w'.words n ≡ w'.last
@@ -66,8 +66,8 @@ module _ (o : Observed) (g : HomeFlit) (w w' : World) (sound : Sound o) (low : g
       (λ k h lk. subst (λ x. fresh (o.public.due k) (o.told k) x ≡ false) (gives.others.state k lk h)
       (at_else (λ k a b. k < 32 → fresh a b (w'.state k) ≡ false) n d' t' o.public.due o.told u k h lk))
 
-  home_here : (v : List ℕ) → ((fills_told g.grant t ≡ true) × (g.shown ≡ v)) ⊎ ((fills_told g.grant t ≡ false) × (o.home ≡ Some v)) → w'.home ≡ v
-  home_here v (inl c) = gives.home ∙ informed (sym (fills_same o g low may s (m.told n low)) ∙ c.0) ∙ c.1
+  home_here : (v : List ℕ) → ((shows_told g.grant t ≡ true) × (g.shown ≡ v)) ⊎ ((shows_told g.grant t ≡ false) × (o.home ≡ Some v)) → w'.home ≡ v
+  home_here v (inl c) = gives.home ∙ informed (sym (shows_same o g low may s (m.told n low)) ∙ c.0) ∙ c.1
   home_here v (inr c) = gives.home ∙ m.home v c.1
 
   pub lead_here : Meaning (next_home o g) w'
@@ -78,7 +78,7 @@ module _ (o : Observed) (g : HomeFlit) (w w' : World) (sound : Sound o) (low : g
     words = split (λ k. k < 32 → holds_data (w'.state k).copy ≡ true → w'.words k ≡ w'.last) n
         (λ lk v. here_words v (makes g.grant d) refl)
         (λ k h lk v. gives.others.words k lk h ∙ else_words k h lk (subst (λ (x : Held). holds_data x.copy ≡ true) (gives.others.state k lk h) v) (makes g.grant d) refl);
-    home = λ v e. home_here v (value_cases (fills_told g.grant t) g.shown o.home v e);
+    home = λ v e. home_here v (value_cases (shows_told g.grant t) g.shown o.home v e);
     current = λ c u. gives.last (turned _ (right o.current _ c)) ∙ m.current (left _ _ c) (before u) ∙ sym gives.home;
   }
 

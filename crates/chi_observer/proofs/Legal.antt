@@ -1,5 +1,5 @@
 -- Whole traces: what is legal is accepted, and what is accepted is legal.
-use Rattle.std.proofs.Common.{◌≡◌, List, [], ◌∷◌, refl, sym, ap, subst, ◌∙◌}
+use Rattle.std.proofs.Common.{◌≡◌, ◌<◌, List, [], ◌∷◌, refl, sym, ap, subst, ◌∙◌}
 use Rattle.std.specs.Prelude.{Bool, true, false, ◌||◌, not}
 use Rattle.chi_observer.specs.declared.flits.HomeFlit.{HomeFlit}
 use Rattle.chi_observer.specs.declared.flits.Flit.{Flit}
@@ -31,9 +31,9 @@ has_needed : (es : List Flit) (g : HomeFlit) → Accepted es → IsExact es → 
 has_needed es g a e h c = moment_shown es a g.agent.0
     (needed_by (needs_moment g.grant ((seen es).public.due g.agent.0)) (shown_by es g.agent.0) h (ap (λ (p : Public). needs_moment g.grant (p.due g.agent.0)) e.public ∙ c))
 
-has_shown : (es : List Flit) (g : HomeFlit) → Accepted es → IsExact es → HasNeeded es g → has_moment (seen es) (shown_by es) g ≡ true
-has_shown es g a e h = if_needed (needs_moment g.grant ((seen es).public.due g.agent.0)) (shown_by es g.agent.0)
-    (λ c. shown_moment es a g.agent.0 (h (sym (ap (λ (p : Public). needs_moment g.grant (p.due g.agent.0)) e.public) ∙ c)))
+has_shown : (es : List Flit) (g : HomeFlit) → Accepted es → g.agent.0 < 32 → IsExact es → HasNeeded es g → has_moment (seen es) (shown_by es) g ≡ true
+has_shown es g a low e h = if_needed (needs_moment g.grant ((seen es).public.due g.agent.0)) (shown_by es g.agent.0)
+    (λ c. shown_moment es a g.agent.0 low (h (sym (ap (λ (p : Public). needs_moment g.grant (p.due g.agent.0)) e.public) ∙ c)))
 
 pub accepted : LegalIsAccepted
 accepted [] l = l
@@ -47,7 +47,7 @@ accepted (Down g ∷ es) l =
       safe_taken (seen es) g e.sound l.1 (record { world = l.2.0; meant = e.meant l.2.0 l.2.1; informed = l.2.2 })
           (λ w m i. subst (λ p. IsSafe p g w) (sym e.public) (l.3 w (e.after w m) i)),
       l.4,
-      has_shown es g a e l.5,
+      has_shown es g a l.1 e l.5,
     )
 
 -- each copy the strongest that it is told

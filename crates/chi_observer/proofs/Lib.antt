@@ -13,6 +13,9 @@ mod Home
 mod Origin
 mod Top
 mod Runs
+mod Tops
+mod Waits
+mod Current
 mod Since
 mod Legal
 mod Lines

@@ -12,12 +12,12 @@ use Rattle.chi_observer.specs.declared.flits.Flit.{Flit}
 use Rattle.chi_observer.specs.declared.observer.AgentSeen.{AgentSeen}
 use Rattle.chi_observer.specs.declared.observer.Observer.{Observer}
 use Rattle.chi_observer.specs.Rules.{awaits_moment, makes, tells_words, passes_duty, needs_duty}
-use Rattle.chi_observer.specs.Moments.{is_issue, shown_after}
-use Rattle.chi_observer.specs.Tables.{Known, told_after, renews, fills_told}
+use Rattle.chi_observer.specs.Moments.{is_issue, shown_after, waits_after}
+use Rattle.chi_observer.specs.Tables.{Known, told_after, renews, shows_told}
 use Rattle.chi_observer.specs.Worlds.{put}
 use Rattle.chi_observer.specs.Observed.{Observed, differs, next, next_home}
 use Rattle.chi_observer.specs.Runs.{nothing_told}
-use Rattle.chi_observer.specs.Lines.{nobody, agent_of, known_of, observed, agent_after, agent_granted, Watched, shown_of, shown_here, none_dirty_of, nothing_watched}
+use Rattle.chi_observer.specs.Lines.{nobody, agent_of, known_of, observed, agent_after, agent_granted, Watched, shown_of, shown_here, waits_here, moment_here, nothing_watched}
 use Rattle.chi_observer.proofs.Finite.{no}
 use Rattle.chi_observer.proofs.Put.{here, there, split}
 
@@ -35,7 +35,7 @@ made_same e e' q q' d d' t t' v v' c c' he hq hd ht hv hc = λ i. made (he i) (h
 
 -- what is told doesn't depend on the moments
 abbrev pub whole : List AgentSeen → Option (List ℕ) → Bool → Bool → Observer
-whole agents home current duty = record { agents = agents; home = home; current = current; duty = duty; shown = [] }
+whole agents home current duty = record { agents = agents; home = home; current = current; duty = duty; waits = false; shown = [] }
 
 module _ (agents : List AgentSeen) (home : Option (List ℕ)) (current duty : Bool) (x : AgentSeen) (home' : Option (List ℕ)) (current' duty' : Bool) where
   pub sent_after : (f : CacheFlit) (b : Bool) → f.agent.0 < length agents → x ≡ agent_after f.act (agent_of agents f.agent.0) b → b ≡ differs (observed (whole agents home current duty)) f → home' ≡ (if tells_words f.act then Some f.shown else home) → current' ≡ (if tells_words f.act then true else (if renews f.act (agent_of agents f.agent.0).due (known_of (agent_of agents f.agent.0)) then false else current)) → duty' ≡ (duty || passes_duty f.act) → observed (whole (slice_set agents f.agent.0 x) home' current' duty') ≡ next (observed (whole agents home current duty)) f
@@ -50,7 +50,7 @@ module _ (agents : List AgentSeen) (home : Option (List ℕ)) (current duty : Bo
       hv
       hc
 
-  pub given_after : (g : HomeFlit) → g.agent.0 < length agents → x ≡ agent_granted g.grant (agent_of agents g.agent.0) → home' ≡ (if fills_told g.grant (known_of (agent_of agents g.agent.0)) then Some g.shown else home) → current' ≡ (current && not (makes g.grant (agent_of agents g.agent.0).due)) → duty' ≡ (duty && not (needs_duty g.grant)) → observed (whole (slice_set agents g.agent.0 x) home' current' duty') ≡ next_home (observed (whole agents home current duty)) g
+  pub given_after : (g : HomeFlit) → g.agent.0 < length agents → x ≡ agent_granted g.grant (agent_of agents g.agent.0) → home' ≡ (if shows_told g.grant (known_of (agent_of agents g.agent.0)) then Some g.shown else home) → current' ≡ (current && not (makes g.grant (agent_of agents g.agent.0).due)) → duty' ≡ (duty && not (needs_duty g.grant)) → observed (whole (slice_set agents g.agent.0 x) home' current' duty') ≡ next_home (observed (whole agents home current duty)) g
   given_after g low e hv hc hd =
       let n = g.agent.0 in
       made_same _ _ _ _ _ _ _ _ _ _ _ _
@@ -70,11 +70,11 @@ module _ (agents : List AgentSeen) (home : Option (List ℕ)) (current duty : Bo
       ∙ ap (λ (z : Bool). if tells_words f.act then true else (if z then false else current)) (hr ∙ ap (λ (k : ℕ). renews f.act (agent_of agents k).due (known_of (agent_of agents k))) hn))
       hd
 
-  pub given_by : (g : HomeFlit) (n : ℕ) (full : Bool) → n ≡ g.agent.0 → n < length agents → x ≡ agent_granted g.grant (agent_of agents n) → full ≡ fills_told g.grant (known_of (agent_of agents n)) → home' ≡ (if full then Some g.shown else home) → current' ≡ (current && not (makes g.grant (agent_of agents n).due)) → duty' ≡ (duty && not (needs_duty g.grant)) → observed (whole (slice_set agents n x) home' current' duty') ≡ next_home (observed (whole agents home current duty)) g
+  pub given_by : (g : HomeFlit) (n : ℕ) (full : Bool) → n ≡ g.agent.0 → n < length agents → x ≡ agent_granted g.grant (agent_of agents n) → full ≡ shows_told g.grant (known_of (agent_of agents n)) → home' ≡ (if full then Some g.shown else home) → current' ≡ (current && not (makes g.grant (agent_of agents n).due)) → duty' ≡ (duty && not (needs_duty g.grant)) → observed (whole (slice_set agents n x) home' current' duty') ≡ next_home (observed (whole agents home current duty)) g
   given_by g n full hn low e hf hv hc hd =
       ap (λ (k : ℕ). observed (whole (slice_set agents k x) home' current' duty')) hn
       ∙ given_after g (subst (λ (k : ℕ). k < length agents) hn low) (e ∙ ap (λ (k : ℕ). agent_granted g.grant (agent_of agents k)) hn)
-      (hv ∙ ap (λ (z : Bool). if z then Some g.shown else home) (hf ∙ ap (λ (k : ℕ). fills_told g.grant (known_of (agent_of agents k))) hn))
+      (hv ∙ ap (λ (z : Bool). if z then Some g.shown else home) (hf ∙ ap (λ (k : ℕ). shows_told g.grant (known_of (agent_of agents k))) hn))
       (hc ∙ ap (λ (k : ℕ). current && not (makes g.grant (agent_of agents k).due)) hn)
       hd
 
@@ -94,8 +94,8 @@ told_nothing = made_same _ _ _ _ _ _ _ _ _ _ _ _
     refl
     refl
 
-abbrev pub seen_with : Observed → (ℕ → Bool) → Watched
-seen_with o f = record { seen = o; shown = f }
+abbrev pub seen_with : Observed → Bool → (ℕ → Bool) → Watched
+seen_with o b f = record { seen = o; waits = b; shown = f }
 
 no_moments : (k n : ℕ) → shown_of (replicate k false) n ≡ false
 no_moments zero zero = refl
@@ -103,8 +103,8 @@ no_moments zero (suc n) = refl
 no_moments (suc k) zero = refl
 no_moments (suc k) (suc n) = no_moments k n
 
-pub watched_nothing : seen_with (observed (whole (replicate 32 nobody) None true false)) (λ n. shown_of (replicate 32 false) n) ≡ nothing_watched
-watched_nothing = λ i. seen_with (told_nothing i) (fun_ext (no_moments 32) i)
+pub watched_nothing : seen_with (observed (whole (replicate 32 nobody) None true false)) false (λ n. shown_of (replicate 32 false) n) ≡ nothing_watched
+watched_nothing = λ i. seen_with (told_nothing i) false (fun_ext (no_moments 32) i)
 
 pub refused : (a b : Bool) → a ≡ false → false ≡ (a && b)
 refused true b h = no (sym h)
@@ -132,17 +132,26 @@ low_by : (n : ℕ) (b : Bool) → nat_lt n 32 ≡ b → (n < 32) ⊎ (32 ≤ n)
 low_by n true h = inl (search (rules, arith))
 low_by n false h = inr (search (rules, arith))
 
-shown_past : (agents : List AgentSeen) (before shown : List Bool) (e : Flit) (n : ℕ) → length agents ≡ 32 → length shown ≡ 32 → 32 ≤ n → shown_of shown n ≡ shown_here agents e (shown_of before n) n
-shown_past agents before shown e n la ls h = get_or_past shown n false (subst (λ (k : ℕ). k ≤ n) (sym ls) h)
-    ∙ sym (ap (λ (a : AgentSeen). awaits_moment a.due && ((not (is_issue e n) && shown_of before n) || none_dirty_of agents e n)) (get_or_past agents n nobody (subst (λ (k : ℕ). k ≤ n) (sym la) h)))
+shown_past : (agents : List AgentSeen) (current : Bool) (before shown : List Bool) (e : Flit) (n : ℕ) → length agents ≡ 32 → length shown ≡ 32 → 32 ≤ n → shown_of shown n ≡ shown_here agents current e (shown_of before n) n
+shown_past agents current before shown e n la ls h = get_or_past shown n false (subst (λ (k : ℕ). k ≤ n) (sym ls) h)
+    ∙ sym (ap (λ (a : AgentSeen). awaits_moment a.due && ((not (is_issue e n) && shown_of before n) || moment_here agents current e n)) (get_or_past agents n nobody (subst (λ (k : ℕ). k ≤ n) (sym la) h)))
 
-shown_each : (agents : List AgentSeen) (before shown : List Bool) (e : Flit) → length agents ≡ 32 → length shown ≡ 32 → ((n : ℕ) → n < 32 → shown_of shown n ≡ shown_here agents e (shown_of before n) n) → (n : ℕ) → (n < 32) ⊎ (32 ≤ n) → shown_of shown n ≡ shown_here agents e (shown_of before n) n
-shown_each agents before shown e la ls each n (inl h) = each n h
-shown_each agents before shown e la ls each n (inr h) = shown_past agents before shown e n la ls h
+shown_each : (agents : List AgentSeen) (current : Bool) (before shown : List Bool) (e : Flit) → length agents ≡ 32 → length shown ≡ 32 → ((n : ℕ) → n < 32 → shown_of shown n ≡ shown_here agents current e (shown_of before n) n) → (n : ℕ) → (n < 32) ⊎ (32 ≤ n) → shown_of shown n ≡ shown_here agents current e (shown_of before n) n
+shown_each agents current before shown e la ls each n (inl h) = each n h
+shown_each agents current before shown e la ls each n (inr h) = shown_past agents current before shown e n la ls h
 
-pub shown_all : (agents : List AgentSeen) (before shown : List Bool) (e : Flit) → length agents ≡ 32 → length shown ≡ 32 → ((n : ℕ) → n < 32 → shown_of shown n ≡ shown_here agents e (shown_of before n) n) → (n : ℕ) → shown_of shown n ≡ shown_here agents e (shown_of before n) n
-shown_all agents before shown e la ls each n = shown_each agents before shown e la ls each n (low_by n (nat_lt n 32) refl)
+pub shown_all : (agents : List AgentSeen) (current : Bool) (before shown : List Bool) (e : Flit) → length agents ≡ 32 → length shown ≡ 32 → ((n : ℕ) → n < 32 → shown_of shown n ≡ shown_here agents current e (shown_of before n) n) → (n : ℕ) → shown_of shown n ≡ shown_here agents current e (shown_of before n) n
+shown_all agents current before shown e la ls each n = shown_each agents current before shown e la ls each n (low_by n (nat_lt n 32) refl)
+
+-- none is open
+pub none_shown : (w : Bool) (agents : List AgentSeen) (current : Bool) (before : List Bool) (e : Flit) (n : ℕ) → w ≡ false → shown_of (replicate 32 false) n ≡ (w && shown_here agents current e (shown_of before n) n)
+none_shown w agents current before e n h = no_moments 32 n ∙ sym (ap (λ (b : Bool). b && shown_here agents current e (shown_of before n) n) h)
 
 -- what is kept then
-pub noted : (mid : Observer) (o : Observed) (before shown : List Bool) (e : Flit) → observed mid ≡ o → ((n : ℕ) → shown_of shown n ≡ shown_here mid.agents e (shown_of before n) n) → seen_with (observed mid) (λ n. shown_of shown n) ≡ seen_with o (λ n. shown_after o e (λ k. shown_of before k) n)
-noted mid o before shown e eo each = ap (λ (f : ℕ → Bool). seen_with (observed mid) f) (fun_ext each) ∙ ap (λ (z : Observed). seen_with z (λ n. shown_after z e (λ k. shown_of before k) n)) eo
+pub noted : (mid : Observer) (o : Observed) (was waits : Bool) (before shown : List Bool) (e : Flit) → observed mid ≡ o → waits ≡ waits_here mid.agents e was
+    → ((n : ℕ) → shown_of shown n ≡ (waits && shown_here mid.agents mid.current e (shown_of before n) n))
+    → seen_with (observed mid) waits (λ n. shown_of shown n) ≡ seen_with o (waits_after o e was) (λ n. waits_after o e was && shown_after o e (λ k. shown_of before k) n)
+noted mid o was waits before shown e eo ew each =
+    ap (λ (f : ℕ → Bool). seen_with (observed mid) waits f) (fun_ext each)
+    ∙ ap (λ (b : Bool). seen_with (observed mid) b (λ n. b && shown_after (observed mid) e (λ k. shown_of before k) n)) ew
+    ∙ ap (λ (z : Observed). seen_with z (waits_after z e was) (λ n. waits_after z e was && shown_after z e (λ k. shown_of before k) n)) eo

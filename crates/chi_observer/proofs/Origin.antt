@@ -4,16 +4,16 @@ use Rattle.std.specs.Prelude.{Bool, true, false, ◌&&◌, ◌||◌, Some, if◌
 use Rattle.chi_observer.specs.declared.flits.Due.{Due}
 use Rattle.chi_observer.specs.declared.flits.HomeFlit.{HomeFlit}
 use Rattle.chi_observer.specs.Copies.{Held, holds_data, is_unique}
-use Rattle.chi_observer.specs.Rules.{granted, fills, makes, due_granted, needs_quiet}
-use Rattle.chi_observer.specs.Tables.{Known, reach, fresh, told_granted, fills_told}
+use Rattle.chi_observer.specs.Rules.{granted, fills, shows, makes, due_granted, needs_quiet}
+use Rattle.chi_observer.specs.Tables.{Known, reach, fresh, told_granted, shows_told}
 use Rattle.chi_observer.specs.Worlds.{World, Gives, Informed, home_may, put}
 use Rattle.chi_observer.specs.Observed.{Observed, Sound, Unstored, Meaning, goes, takes_home, next_home}
 use Rattle.chi_observer.specs.Laws.{MeaningComesByHome}
 use Rattle.chi_observer.proofs.Finite.{no, left, right, both}
 use Rattle.chi_observer.proofs.Facts.{same_held, same_held_is, is_settled, or_there, flip, below, beside_unique}
-use Rattle.chi_observer.proofs.Grants.{granted_before, got, made_copy}
+use Rattle.chi_observer.proofs.Grants.{copy_data, granted_before, got, made_copy}
 use Rattle.chi_observer.proofs.Words.{fitted, some_value, old_value}
-use Rattle.chi_observer.proofs.Copies.{home_kept, goes_else, fitting, fills_same, filled_last}
+use Rattle.chi_observer.proofs.Copies.{home_kept, goes_else, fitting, fills_same, shows_same, filled_last}
 use Rattle.chi_observer.proofs.Put.{here, there, split}
 use Rattle.chi_observer.proofs.Rewind.{Undone, rewind}
 
@@ -83,12 +83,12 @@ module _ (o : Observed) (g : HomeFlit) (w2 : World) (sound : Sound o) (low : g.a
   unfolding Quiet
   quiet_of u k h lk = subst (λ x. fresh (o.public.due k) (o.told k) x ≡ false) (there n was w2.state k h) (u k lk)
 
-  home_shown : fills_told g.grant t ≡ true → w2.home ≡ g.shown
-  home_shown f = un.home g.shown (some_value (fills_told g.grant t) g.shown o.home f)
+  home_shown : shows_told g.grant t ≡ true → w2.home ≡ g.shown
+  home_shown f = un.home g.shown (some_value (shows_told g.grant t) g.shown o.home f)
 
-  home_was : (v : List ℕ) → o.home ≡ Some v → (b : Bool) → fills_told g.grant t ≡ b → w2.home ≡ v
-  home_was v e true f = home_shown f ∙ sym (fitted (fills_told g.grant t) o.home g.shown v (left _ (goes o g) (right (home_may o.public g) _ takes)) f e)
-  home_was v e false f = un.home v (old_value (fills_told g.grant t) g.shown o.home f ∙ e)
+  home_was : (v : List ℕ) → o.home ≡ Some v → (b : Bool) → shows_told g.grant t ≡ b → w2.home ≡ v
+  home_was v e true f = home_shown f ∙ sym (fitted (shows_told g.grant t) o.home g.shown v (left _ (goes o g) (right (home_may o.public g) _ takes)) f e)
+  home_was v e false f = un.home v (old_value (shows_told g.grant t) g.shown o.home f ∙ e)
 
   made : makes g.grant d ≡ true → (is_unique s2.copy && holds_data s2.copy) ≡ true
   made e = subst (λ (x : Held). (is_unique x.copy && holds_data x.copy) ≡ true) (sym gives) (made_copy g.grant d was.copy e)
@@ -112,19 +112,19 @@ module _ (o : Observed) (g : HomeFlit) (w2 : World) (sound : Sound o) (low : g.a
     words = split (λ k. k < 32 → holds_data (old.state k).copy ≡ true → old.words k ≡ value) n
         (λ _ _. here n value w2.words)
         (λ k h lk v. there n value w2.words k h ∙ else_words k h lk (subst (λ (x : Held). holds_data x.copy ≡ true) (there n was w2.state k h) v) (makes g.grant d) refl);
-    home = λ v e. home_was v e (fills_told g.grant t) refl;
+    home = λ v e. home_was v e (shows_told g.grant t) refl;
     current = λ c u. old_current c (quiet_of u) (makes g.grant d) refl;
   }
 
   last_shown : makes g.grant d ≡ false → fills g.grant was ≡ true → w2.last ≡ g.shown
-  last_shown e f = sym (value_same e) ∙ filled_last o g old sound low takes old_meant (subst (λ x. fills g.grant x ≡ true) (sym (here n was w2.state)) f) ∙ home_shown (fills_same o g low allowed was old_reach ∙ f)
+  last_shown e f = sym (value_same e) ∙ filled_last o g old sound low takes old_meant (subst (λ x. fills g.grant x ≡ true) (sym (here n was w2.state)) f) ∙ home_shown (copy_data g.grant _ (fills_same o g low allowed was old_reach ∙ f))
 
   words_are : makes g.grant d ≡ false → (b : Bool) → fills g.grant was ≡ b → w2.last ≡ (if fills g.grant was then g.shown else put n value w2.words n)
   words_are e true f = last_shown e f ∙ sym (ap (λ b. if b then g.shown else put n value w2.words n) f)
   words_are e false f = sym (value_same e) ∙ sym (here n value w2.words) ∙ sym (ap (λ b. if b then g.shown else put n value w2.words n) f)
 
   pub old_informed : Informed g old
-  old_informed f = home_shown (fills_same o g low allowed was old_reach ∙ subst (λ x. fills g.grant x ≡ true) (here n was w2.state) f)
+  old_informed f = home_shown (shows_same o g low allowed was old_reach ∙ subst (λ x. shows g.grant x ≡ true) (here n was w2.state) f)
 
   pub old_gives : Gives o.public g old w2
   old_gives = record {

@@ -9,12 +9,12 @@ use Rattle.chi_observer.specs.declared.flits.Flit.{Flit}
 use Rattle.chi_observer.specs.declared.flits.Flit.TheVariants.{Up, Down}
 use Rattle.chi_observer.specs.Copies.{Held, is_unique, is_dirty}
 use Rattle.chi_observer.specs.Copies.Copy.{UniqueDirty}
-use Rattle.chi_observer.specs.Rules.{is_resending, awaits_moment, needs_quiet}
+use Rattle.chi_observer.specs.Rules.{is_resending, awaits_moment, reads_once, needs_quiet}
 use Rattle.chi_observer.specs.Tables.{Known, most, may, reach, may_be_free, told_granted}
 use Rattle.chi_observer.specs.Worlds.{Public, World, Sends, Gives, put}
 use Rattle.chi_observer.specs.Observed.{Observed, next, next_home}
-use Rattle.chi_observer.specs.Moments.{is_issue, tells_of, may_be_dirty, none_dirty}
-use Rattle.chi_observer.specs.Runs.{public_of, seen, shown_by, NoneDirty, HasMoment, Accepted}
+use Rattle.chi_observer.specs.Moments.{is_issue, tells_of, may_be_dirty, none_dirty, home_is_last, is_moment}
+use Rattle.chi_observer.specs.Runs.{public_of, seen, waits_by, shown_by, NoneDirty, HomeIsLast, IsMoment, HasMoment, Accepted}
 use Rattle.chi_observer.proofs.Finite.{no, left, right, both, implies, follow}
 use Rattle.chi_observer.proofs.Spots.{all_due_copies, each_due_copy}
 use Rattle.chi_observer.proofs.Facts.{turned, flip, or_here, or_there, top_copy, reach_self, is_settled}
@@ -26,6 +26,9 @@ use Rattle.chi_observer.proofs.Cache.{leads, settled_sent}
 use Rattle.chi_observer.proofs.Home.{home_leads}
 use Rattle.chi_observer.proofs.Back.{world_before, before_meant, before_sends}
 use Rattle.chi_observer.proofs.Origin.{world_given, old_meant, old_informed, old_gives}
+use Rattle.chi_observer.proofs.Tops.{top_settled}
+use Rattle.chi_observer.proofs.Waits.{wakes}
+use Rattle.chi_observer.proofs.Current.{up_last, up_surely, down_last, down_surely}
 use Rattle.chi_observer.proofs.Runs.{exact}
 
 one_of : (a b : Bool) → (a || b) ≡ true → a ≡ false → b ≡ true
@@ -84,19 +87,15 @@ unfolding dirty_table
 dirty_found d t = follow (can_be_dirty d t) _ (each_due_copy dirty_table dirty_holds d t (top_copy d t))
 
 settled_table : Due → Known → Held → Bool
-settled_table d t s = is_settled d t (top_copy d t) && implies (is_dirty (most t)) (is_settled d t (dirty_top d t))
+settled_table d t s = implies (is_dirty (most t)) (is_settled d t (dirty_top d t))
 
 settled_holds : all_due_copies settled_table ≡ true
 unfolding settled_table
 settled_holds = refl
 
-top_settled : (d : Due) (t : Known) → is_settled d t (top_copy d t) ≡ true
-unfolding settled_table
-top_settled d t = left _ (implies (is_dirty (most t)) (is_settled d t (dirty_top d t))) (each_due_copy settled_table settled_holds d t (top_copy d t))
-
 dirty_settled : (d : Due) (t : Known) → is_dirty (most t) ≡ true → is_settled d t (dirty_top d t) ≡ true
 unfolding settled_table
-dirty_settled d t = follow (is_dirty (most t)) _ (right (is_settled d t (top_copy d t)) _ (each_due_copy settled_table settled_holds d t (top_copy d t)))
+dirty_settled d t = follow (is_dirty (most t)) _ (each_due_copy settled_table settled_holds d t (top_copy d t))
 
 -- m's copy is dirty, and each other the strongest
 module _ (o : Observed) (m : ℕ) (can : can_be_dirty (o.public.due m) (o.told m) ≡ true) where
@@ -208,32 +207,61 @@ split_or : (a b : Bool) → (a || b) ≡ true → (a ≡ true) ⊎ (b ≡ true)
 split_or true b h = inl refl
 split_or false b h = inr h
 
-keep_cases : (es : List Flit) (e : Flit) (n : ℕ) (c : Bool) → (shown_by es n ≡ true → HasMoment es n) → (c ≡ true → NoneDirty (e ∷ es) n) → ((not (is_issue e n) && shown_by es n) ≡ true) ⊎ (c ≡ true) → ((is_issue e n ≡ false) × HasMoment es n) ⊎ NoneDirty (e ∷ es) n
-keep_cases es e n c before clean (inl x) = inl (turned _ (left _ _ x), before (right (not (is_issue e n)) _ x))
-keep_cases es e n c before clean (inr x) = inr (clean x)
+-- b: a ReadOnce is open
+moment_by : (b x y : Bool) (es : List Flit) (n : ℕ) → (x ≡ true → HomeIsLast es) → (y ≡ true → NoneDirty es n) → (if b then x else y) ≡ true → IsMoment b es n
+moment_by true x y es n f g h = f h
+moment_by false x y es n f g h = g h
 
-kept_moment : (es : List Flit) (e : Flit) (n : ℕ) (d : Due) → ((public_of (e ∷ es)).due n ≡ d) → (shown_by es n ≡ true → HasMoment es n) → (c : Bool) → (c ≡ true → NoneDirty (e ∷ es) n) → (awaits_moment d && ((not (is_issue e n) && shown_by es n) || c)) ≡ true → HasMoment (e ∷ es) n
-kept_moment es e n d hd before c clean h = (
+moment_of : (b x y : Bool) (es : List Flit) (n : ℕ) → (HomeIsLast es → x ≡ true) → (NoneDirty es n → y ≡ true) → IsMoment b es n → (if b then x else y) ≡ true
+moment_of true x y es n f g h = f h
+moment_of false x y es n f g h = g h
+
+up_moment : (es : List Flit) (f : CacheFlit) (a : Accepted (Up f ∷ es)) (n : ℕ) → is_moment (next (seen es) f) (Up f) n ≡ true → IsMoment (reads_once ((next (seen es) f).public.due n)) (Up f ∷ es) n
+up_moment es f a n = moment_by (reads_once ((next (seen es) f).public.due n)) (home_is_last (next (seen es) f) (Up f)) (none_dirty (next (seen es) f) (Up f) n) (Up f ∷ es) n (up_last es f a) (up_clean es f a n)
+
+up_found : (es : List Flit) (f : CacheFlit) (a : Accepted (Up f ∷ es)) (n : ℕ) → IsMoment (reads_once ((next (seen es) f).public.due n)) (Up f ∷ es) n → is_moment (next (seen es) f) (Up f) n ≡ true
+up_found es f a n = moment_of (reads_once ((next (seen es) f).public.due n)) (home_is_last (next (seen es) f) (Up f)) (none_dirty (next (seen es) f) (Up f) n) (Up f ∷ es) n (up_surely es f a) (up_none es f a n)
+
+down_moment : (es : List Flit) (g : HomeFlit) (a : Accepted (Down g ∷ es)) (n : ℕ) → is_moment (next_home (seen es) g) (Down g) n ≡ true → IsMoment (reads_once ((next_home (seen es) g).public.due n)) (Down g ∷ es) n
+down_moment es g a n = moment_by (reads_once ((next_home (seen es) g).public.due n)) (home_is_last (next_home (seen es) g) (Down g)) (none_dirty (next_home (seen es) g) (Down g) n) (Down g ∷ es) n (down_last es g a) (down_clean es g a n)
+
+down_found : (es : List Flit) (g : HomeFlit) (a : Accepted (Down g ∷ es)) (n : ℕ) → IsMoment (reads_once ((next_home (seen es) g).public.due n)) (Down g ∷ es) n → is_moment (next_home (seen es) g) (Down g) n ≡ true
+down_found es g a n = moment_of (reads_once ((next_home (seen es) g).public.due n)) (home_is_last (next_home (seen es) g) (Down g)) (none_dirty (next_home (seen es) g) (Down g) n) (Down g ∷ es) n (down_surely es g a) (down_none es g a n)
+
+keep_cases : (es : List Flit) (e : Flit) (n : ℕ) (M : Type 0) (c : Bool) → (shown_by es n ≡ true → HasMoment es n) → (c ≡ true → M) → ((not (is_issue e n) && shown_by es n) ≡ true) ⊎ (c ≡ true) → ((is_issue e n ≡ false) × HasMoment es n) ⊎ M
+keep_cases es e n M c before so (inl x) = inl (turned _ (left _ _ x), before (right (not (is_issue e n)) _ x))
+keep_cases es e n M c before so (inr x) = inr (so x)
+
+kept_moment : (es : List Flit) (e : Flit) (n : ℕ) (d : Due) → ((public_of (e ∷ es)).due n ≡ d) → (shown_by es n ≡ true → HasMoment es n) → (c : Bool) → (c ≡ true → IsMoment (reads_once d) (e ∷ es) n) → (awaits_moment d && ((not (is_issue e n) && shown_by es n) || c)) ≡ true → HasMoment (e ∷ es) n
+kept_moment es e n d hd before c so h = (
   ap awaits_moment hd ∙ left (awaits_moment d) _ h,
-  keep_cases es e n c before clean (split_or (not (is_issue e n) && shown_by es n) c (right (awaits_moment d) _ h)),
+  keep_cases es e n (IsMoment (reads_once ((public_of (e ∷ es)).due n)) (e ∷ es) n) c before (λ x. subst (λ z. IsMoment (reads_once z) (e ∷ es) n) (sym hd) (so x))
+      (split_or (not (is_issue e n) && shown_by es n) c (right (awaits_moment d) _ h)),
 )
 
-lose_cases : (es : List Flit) (e : Flit) (n : ℕ) (c : Bool) → (HasMoment es n → shown_by es n ≡ true) → (NoneDirty (e ∷ es) n → c ≡ true) → ((is_issue e n ≡ false) × HasMoment es n) ⊎ NoneDirty (e ∷ es) n → ((not (is_issue e n) && shown_by es n) || c) ≡ true
-lose_cases es e n c before clean (inl x) = or_here _ c (both _ _ (flip _ x.0) (before x.1))
-lose_cases es e n c before clean (inr x) = or_there (not (is_issue e n) && shown_by es n) c (clean x)
+lose_cases : (es : List Flit) (e : Flit) (n : ℕ) (M : Type 0) (c : Bool) → (HasMoment es n → shown_by es n ≡ true) → (M → c ≡ true) → ((is_issue e n ≡ false) × HasMoment es n) ⊎ M → ((not (is_issue e n) && shown_by es n) || c) ≡ true
+lose_cases es e n M c before so (inl x) = or_here _ c (both _ _ (flip _ x.0) (before x.1))
+lose_cases es e n M c before so (inr x) = or_there (not (is_issue e n) && shown_by es n) c (so x)
 
-lost_moment : (es : List Flit) (e : Flit) (n : ℕ) (d : Due) → ((public_of (e ∷ es)).due n ≡ d) → (HasMoment es n → shown_by es n ≡ true) → (c : Bool) → (NoneDirty (e ∷ es) n → c ≡ true) → HasMoment (e ∷ es) n → (awaits_moment d && ((not (is_issue e n) && shown_by es n) || c)) ≡ true
-lost_moment es e n d hd before c clean h = both (awaits_moment d) _ (sym (ap awaits_moment hd) ∙ h.0) (lose_cases es e n c before clean h.1)
+lost_moment : (es : List Flit) (e : Flit) (n : ℕ) (d : Due) → ((public_of (e ∷ es)).due n ≡ d) → (HasMoment es n → shown_by es n ≡ true) → (c : Bool) → (IsMoment (reads_once d) (e ∷ es) n → c ≡ true) → HasMoment (e ∷ es) n → (awaits_moment d && ((not (is_issue e n) && shown_by es n) || c)) ≡ true
+lost_moment es e n d hd before c so h = both (awaits_moment d) _ (sym (ap awaits_moment hd) ∙ h.0)
+    (lose_cases es e n (IsMoment (reads_once ((public_of (e ∷ es)).due n)) (e ∷ es) n) c before (λ x. so (subst (λ z. IsMoment (reads_once z) (e ∷ es) n) hd x)) h.1)
 
 same_due : (es : List Flit) → Accepted es → (n : ℕ) → (public_of es).due n ≡ (seen es).public.due n
 same_due es a n = ap (λ (p : Public). p.due n) (sym (exact es a).public)
 
 pub moment_shown : (es : List Flit) → Accepted es → (n : ℕ) → shown_by es n ≡ true → HasMoment es n
 moment_shown [] a n h = no h
-moment_shown (Up f ∷ es) a n h = kept_moment es (Up f) n ((next (seen es) f).public.due n) (same_due (Up f ∷ es) a n) (moment_shown es a.0 n) (none_dirty (next (seen es) f) (Up f) n) (up_clean es f a n) h
-moment_shown (Down g ∷ es) a n h = kept_moment es (Down g) n ((next_home (seen es) g).public.due n) (same_due (Down g ∷ es) a n) (moment_shown es a.0 n) (none_dirty (next_home (seen es) g) (Down g) n) (down_clean es g a n) h
+moment_shown (Up f ∷ es) a n h = kept_moment es (Up f) n ((next (seen es) f).public.due n) (same_due (Up f ∷ es) a n) (moment_shown es a.0 n)
+    (is_moment (next (seen es) f) (Up f) n) (up_moment es f a n) (right (waits_by (Up f ∷ es)) _ h)
+moment_shown (Down g ∷ es) a n h = kept_moment es (Down g) n ((next_home (seen es) g).public.due n) (same_due (Down g ∷ es) a n) (moment_shown es a.0 n)
+    (is_moment (next_home (seen es) g) (Down g) n) (down_moment es g a n) (right (waits_by (Down g ∷ es)) _ h)
 
-pub shown_moment : (es : List Flit) → Accepted es → (n : ℕ) → HasMoment es n → shown_by es n ≡ true
-shown_moment [] a n h = absurd h
-shown_moment (Up f ∷ es) a n h = lost_moment es (Up f) n ((next (seen es) f).public.due n) (same_due (Up f ∷ es) a n) (shown_moment es a.0 n) (none_dirty (next (seen es) f) (Up f) n) (up_none es f a n) h
-shown_moment (Down g ∷ es) a n h = lost_moment es (Down g) n ((next_home (seen es) g).public.due n) (same_due (Down g ∷ es) a n) (shown_moment es a.0 n) (none_dirty (next_home (seen es) g) (Down g) n) (down_none es g a n) h
+pub shown_moment : (es : List Flit) → Accepted es → (n : ℕ) → n < 32 → HasMoment es n → shown_by es n ≡ true
+shown_moment [] a n low h = absurd h
+shown_moment (Up f ∷ es) a n low h =
+    let shown = lost_moment es (Up f) n ((next (seen es) f).public.due n) (same_due (Up f ∷ es) a n) (shown_moment es a.0 n low) (is_moment (next (seen es) f) (Up f) n) (up_found es f a n) h in
+    both _ _ (wakes (Up f ∷ es) n low (left _ _ shown)) shown
+shown_moment (Down g ∷ es) a n low h =
+    let shown = lost_moment es (Down g) n ((next_home (seen es) g).public.due n) (same_due (Down g ∷ es) a n) (shown_moment es a.0 n low) (is_moment (next_home (seen es) g) (Down g) n) (down_found es g a n) h in
+    both _ _ (wakes (Down g ∷ es) n low (left _ _ shown)) shown

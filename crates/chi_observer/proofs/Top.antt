@@ -4,8 +4,8 @@ use Rattle.std.specs.Prelude.{Bool, true, false, ◌||◌, ◌==◌, not, if◌t
 use Rattle.chi_observer.specs.declared.flits.HomeFlit.{HomeFlit}
 use Rattle.chi_observer.specs.Copies.{Held, compatible, same}
 use Rattle.chi_observer.specs.Copies.Copy.{Invalid}
-use Rattle.chi_observer.specs.Rules.{granted, fills, makes, needs_alone}
-use Rattle.chi_observer.specs.Tables.{Known, most, goes_with, told_granted, fills_told}
+use Rattle.chi_observer.specs.Rules.{granted, fills, shows, makes, needs_alone}
+use Rattle.chi_observer.specs.Tables.{Known, most, goes_with, told_granted, shows_told}
 use Rattle.chi_observer.specs.Worlds.{Public, World, Gives, IsSafe, Informed, home_may, put}
 use Rattle.chi_observer.specs.Observed.{Observed, Sound, Meaning, fits, is_beside, goes, takes_home}
 use Rattle.chi_observer.specs.Laws.{SomeInformed, HomeFlitsArePossible, SafeFlitsAreTaken}
@@ -13,7 +13,7 @@ use Rattle.chi_observer.proofs.Finite.{left, right, both}
 use Rattle.chi_observer.proofs.Facts.{top_copy, reach_self}
 use Rattle.chi_observer.proofs.Grants.{most_granted}
 use Rattle.chi_observer.proofs.Words.{or_words, top_value, fits_by}
-use Rattle.chi_observer.proofs.Copies.{below_all, fills_same}
+use Rattle.chi_observer.proofs.Copies.{below_all, shows_same}
 use Rattle.chi_observer.proofs.Put.{differ, here, there}
 
 gift : Public → HomeFlit → World → World
@@ -40,17 +40,17 @@ or_right true b h = refl
 or_right false b h = h refl
 
 top_words : Observed → HomeFlit → List ℕ
-top_words o g = if fills_told g.grant (o.told g.agent.0) then g.shown else or_words o.home []
+top_words o g = if shows_told g.grant (o.told g.agent.0) then g.shown else or_words o.home []
 
 -- each copy the strongest that it is told
 top : Observed → HomeFlit → World
 top o g = record { state = λ k. top_copy (o.public.due k) (o.told k); words = λ _. top_words o g; last = top_words o g; home = top_words o g }
 
--- what fills a told copy fills the strongest
-same_fills : (o : Observed) (g : HomeFlit) → fills_told g.grant (o.told g.agent.0) ≡ fills g.grant (top_copy (o.public.due g.agent.0) (o.told g.agent.0))
-same_fills o g = refl
+-- what is shown to a told copy is shown to the strongest
+same_shows : (o : Observed) (g : HomeFlit) → shows_told g.grant (o.told g.agent.0) ≡ shows g.grant (top_copy (o.public.due g.agent.0) (o.told g.agent.0))
+same_shows o g = refl
 
-top_is : (o : Observed) (g : HomeFlit) → g.agent.0 < 32 → (not (fills_told g.grant (o.told g.agent.0)) || fits o.home g.shown) ≡ true → SomeInformed o g
+top_is : (o : Observed) (g : HomeFlit) → g.agent.0 < 32 → (not (shows_told g.grant (o.told g.agent.0)) || fits o.home g.shown) ≡ true → SomeInformed o g
 unfolding top top_words
 top_is o g low h = record {
   world = top o g;
@@ -58,7 +58,7 @@ top_is o g low h = record {
     told = λ k lk. reach_self (o.public.due k) (o.told k);
     words = λ _ _ _. refl;
     current = λ _ _. refl;
-    home = λ v e. top_value (fills_told g.grant (o.told g.agent.0)) o.home g.shown v h e;
+    home = λ v e. top_value (shows_told g.grant (o.told g.agent.0)) o.home g.shown v h e;
   };
   informed = λ f. ap (λ b. if b then g.shown else or_words o.home []) f;
 }
@@ -82,11 +82,11 @@ module _ (o : Observed) (g : HomeFlit) (sound : Sound o) (low : g.agent.0 < 32) 
   may : home_may o.public g ≡ true
   may = (safe w some.meant some.informed).0
 
-  fills_here : fills_told g.grant t ≡ true → fills g.grant (w.state n) ≡ true
-  fills_here f = sym (fills_same o g low may (w.state n) (some.meant.told n low)) ∙ f
+  shows_here : shows_told g.grant t ≡ true → shows g.grant (w.state n) ≡ true
+  shows_here f = sym (shows_same o g low may (w.state n) (some.meant.told n low)) ∙ f
 
-  fitting : (not (fills_told g.grant t) || fits o.home g.shown) ≡ true
-  fitting = fits_by (fills_told g.grant t) o.home g.shown (λ f v e. sym (some.meant.home v e) ∙ some.informed (fills_here f))
+  fitting : (not (shows_told g.grant t) || fits o.home g.shown) ≡ true
+  fitting = fits_by (shows_told g.grant t) o.home g.shown (λ f v e. sym (some.meant.home v e) ∙ some.informed (shows_here f))
 
   best : SomeInformed o g
   best = top_is o g low fitting

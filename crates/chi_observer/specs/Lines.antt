@@ -17,12 +17,12 @@ use Rattle.chi_observer.specs.declared.observer.Reason.TheVariants.{NotJudged, N
 use Rattle.chi_observer.specs.Copies.{compatible, same}
 use Rattle.chi_observer.specs.Copies.Copy.{Invalid}
 use Rattle.chi_observer.specs.Judged.{is_judged}
-use Rattle.chi_observer.specs.Rules.{allows, awaits_moment, due_after, snooped_after, is_due, needs_duty, needs_quiet, is_busy, due_granted, snooped_granted}
-use Rattle.chi_observer.specs.Tables.{Known, strongest, is_cancelled, told_behind, fits_told, told_by, cancelled_by, fills_told}
+use Rattle.chi_observer.specs.Rules.{allows, awaits_moment, reads_once, due_after, snooped_after, is_due, needs_duty, needs_quiet, is_busy, due_granted, snooped_granted}
+use Rattle.chi_observer.specs.Tables.{Known, strongest, is_cancelled, told_behind, fits_told, told_by, cancelled_by, shows_told}
 use Rattle.chi_observer.specs.Worlds.{all_below}
 use Rattle.chi_observer.specs.Runs.{nothing_told}
 use Rattle.chi_observer.specs.Observed.{Observed, differs, takes, takes_home, fits, goes}
-use Rattle.chi_observer.specs.Moments.{after, has_moment, is_issue, may_be_dirty, shown_after, tells_of}
+use Rattle.chi_observer.specs.Moments.{after, has_moment, is_issue, may_be_dirty, may_be_stored, opens_moment, shown_after, tells_of, waits_after}
 
 abbrev pub nobody : AgentSeen
 nobody = record { told = I; cancelled = false; due = Nothing; snooped = None }
@@ -41,19 +41,20 @@ observed s = record {
   current = s.current;
 }
 
--- all that is kept: what is told, and the moments of those whose CleanShared is open
+-- all that is kept: what is told, and the moments of those whose CleanShared or ReadOnce is open, if there may be some
 pub record Watched : Type 0 where
   pub seen : Observed
+  pub waits : Bool
   pub shown : ℕ → Bool
 
 abbrev pub shown_of : List Bool → ℕ → Bool
 shown_of shown n = slice_index_or shown n false
 
 abbrev pub nothing_watched : Watched
-nothing_watched = record { seen = nothing_told; shown = λ _. false }
+nothing_watched = record { seen = nothing_told; waits = false; shown = λ _. false }
 
 abbrev pub watched : Observer → Watched
-watched s = record { seen = observed s; shown = λ n. shown_of s.shown n }
+watched s = record { seen = observed s; waits = s.waits; shown = λ n. shown_of s.shown n }
 
 -- a flit of either side
 abbrev pub takes_flit : Watched → Flit → Bool
@@ -64,7 +65,10 @@ abbrev pub is_taken : Watched → Flit → Bool
 is_taken s f = is_judged f && takes_flit s f
 
 abbrev pub watch : Watched → Flit → Watched
-watch s e = record { seen = after s.seen e; shown = λ n. shown_after (after s.seen e) e s.shown n }
+watch s e =
+    let o : Observed = after s.seen e in
+    let waits : Bool = waits_after o e s.waits in
+    record { seen = o; waits = waits; shown = λ n. waits && shown_after o e s.shown n }
 
 -- which reasons hold of a flit that is judged
 abbrev pub is_sent_reason : Observed → CacheFlit → Reason → Bool
@@ -78,7 +82,7 @@ is_given_reason o g NoAgent = not (nat_lt g.agent.0 32)
 is_given_reason o g NotDue = not (is_due g.grant (o.public.due g.agent.0) (o.public.snooped g.agent.0))
 is_given_reason o g NoDuty = needs_duty g.grant && not o.public.duty
 is_given_reason o g Busy = needs_quiet g.grant && not (all_below 32 (λ m. not (is_busy (o.public.due m))))
-is_given_reason o g OtherWords = fills_told g.grant (o.told g.agent.0) && not (fits o.home g.shown)
+is_given_reason o g OtherWords = shows_told g.grant (o.told g.agent.0) && not (fits o.home g.shown)
 is_given_reason o g OtherCopy = not (goes o g)
 is_given_reason o g other = false
 
@@ -114,12 +118,25 @@ goes_beside t alone u = compatible (strongest t) (strongest u) && (not alone || 
 abbrev pub stands_beside : List AgentSeen → ℕ → Told → Bool → Bool
 stands_beside agents n t alone = all_below 32 (λ m. m == n || goes_beside t alone (agent_of agents m).told)
 
--- right behind the flit no other agent's copy can be dirty, and what is kept of an agent's moments then
+-- right behind the flit no other agent's copy can be dirty, or none can have been stored to; and what is kept of an agent's
+-- moments then
 abbrev pub is_clean_beside : AgentSeen → ℕ → ℕ → Flit → Bool
 is_clean_beside a m n e = m == n || not (may_be_dirty a.due (known_of a) (tells_of e m))
 
 abbrev pub none_dirty_of : List AgentSeen → Flit → ℕ → Bool
 none_dirty_of agents e n = all_below 32 (λ m. is_clean_beside (agent_of agents m) m n e)
 
-abbrev pub shown_here : List AgentSeen → Flit → Bool → ℕ → Bool
-shown_here agents e was n = awaits_moment (agent_of agents n).due && ((not (is_issue e n) && was) || none_dirty_of agents e n)
+abbrev pub none_stored_of : List AgentSeen → Flit → Bool
+none_stored_of agents e = all_below 32 (λ m. not (may_be_stored (agent_of agents m).due (known_of (agent_of agents m)) (tells_of e m)))
+
+abbrev pub moment_here : List AgentSeen → Bool → Flit → ℕ → Bool
+moment_here agents current e n = if reads_once (agent_of agents n).due then current && none_stored_of agents e else none_dirty_of agents e n
+
+abbrev pub shown_here : List AgentSeen → Bool → Flit → Bool → ℕ → Bool
+shown_here agents current e was n = awaits_moment (agent_of agents n).due && ((not (is_issue e n) && was) || moment_here agents current e n)
+
+abbrev pub none_waits : List AgentSeen → Bool
+none_waits agents = all_below 32 (λ m. not (awaits_moment (agent_of agents m).due))
+
+abbrev pub waits_here : List AgentSeen → Flit → Bool → Bool
+waits_here agents e waits = opens_moment e || (waits && not (none_waits agents))

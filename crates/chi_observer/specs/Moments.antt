@@ -1,11 +1,12 @@
--- Moments at which no other copy was dirty, as the observer keeps them (docs/OBSERVER.md, "Flits of the home").
-use Rattle.std.specs.Prelude.{ℕ, Bool, false, ◌&&◌, ◌||◌, ◌==◌, not}
+-- Moments at which no other copy was dirty, or the home had the value last stored, as the observer keeps them
+-- (docs/OBSERVER.md, "Flits of the home").
+use Rattle.std.specs.Prelude.{ℕ, Bool, false, ◌&&◌, ◌||◌, ◌==◌, not, if◌then◌else◌}
 use Rattle.chi_observer.specs.declared.flits.HomeFlit.{HomeFlit}
 use Rattle.chi_observer.specs.declared.flits.Flit.{Flit}
 use Rattle.chi_observer.specs.declared.flits.Flit.TheVariants.{Up, Down}
 use Rattle.chi_observer.specs.declared.flits.Due.{Due}
 use Rattle.chi_observer.specs.Copies.{is_unique, is_dirty}
-use Rattle.chi_observer.specs.Rules.{is_request, needs_quiet, awaits_moment, needs_moment}
+use Rattle.chi_observer.specs.Rules.{is_request, needs_quiet, awaits_moment, reads_once, opens_moment as opens_by, needs_moment}
 use Rattle.chi_observer.specs.Tables.{Known, most, may_be_free}
 use Rattle.chi_observer.specs.Worlds.{all_below}
 use Rattle.chi_observer.specs.Observed.{Observed, next, next_home}
@@ -25,16 +26,36 @@ abbrev pub tells_of : Flit → ℕ → Bool
 tells_of (Up f) n = n == f.agent.0
 tells_of (Down g) n = n == g.agent.0 && not (needs_quiet g.grant)
 
+-- there may have been a store that nobody saw; told: the last flit told of the copy
+abbrev pub may_be_stored : Due → Known → Bool → Bool
+may_be_stored d k told = not told && (may_be_free d && is_unique (most k))
+
 abbrev pub may_be_dirty : Due → Known → Bool → Bool
-may_be_dirty d k told = is_dirty (most k) || (not told && (may_be_free d && is_unique (most k)))
+may_be_dirty d k told = is_dirty (most k) || may_be_stored d k told
 
 -- right behind the flit, behind which o is kept, no other copy can be dirty
 abbrev pub none_dirty : Observed → Flit → ℕ → Bool
 none_dirty o e n = all_below 32 (λ m. m == n || not (may_be_dirty (o.public.due m) (o.told m) (tells_of e m)))
 
--- of each agent whose CleanShared is open: there was such a moment since its issue
+-- and the home's own copy is surely the value last stored
+abbrev pub home_is_last : Observed → Flit → Bool
+home_is_last o e = o.current && all_below 32 (λ m. not (may_be_stored (o.public.due m) (o.told m) (tells_of e m)))
+
+-- the moment of n's ReadOnce, or of its CleanShared
+abbrev pub is_moment : Observed → Flit → ℕ → Bool
+is_moment o e n = if reads_once (o.public.due n) then home_is_last o e else none_dirty o e n
+
+-- of each agent whose CleanShared or ReadOnce is open: there was its moment since its issue
 abbrev pub shown_after : Observed → Flit → (ℕ → Bool) → ℕ → Bool
-shown_after o e shown n = awaits_moment (o.public.due n) && ((not (is_issue e n) && shown n) || none_dirty o e n)
+shown_after o e shown n = awaits_moment (o.public.due n) && ((not (is_issue e n) && shown n) || is_moment o e n)
+
+-- some such request may be open
+abbrev pub opens_moment : Flit → Bool
+opens_moment (Up f) = opens_by f.act
+opens_moment (Down g) = false
+
+abbrev pub waits_after : Observed → Flit → Bool → Bool
+waits_after o e waits = opens_moment e || (waits && not (all_below 32 (λ m. not (awaits_moment (o.public.due m)))))
 
 abbrev pub has_moment : Observed → (ℕ → Bool) → HomeFlit → Bool
 has_moment o shown g = not (needs_moment g.grant (o.public.due g.agent.0)) || shown g.agent.0

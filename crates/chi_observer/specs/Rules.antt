@@ -33,6 +33,7 @@ is_issued_from ReadUnique s = is_shared s || (same s Invalid || same s UniqueEmp
 is_issued_from CleanUnique s = is_shared s || (same s Invalid || same s UniqueEmpty)
 is_issued_from MakeUnique s = is_shared s || (same s Invalid || same s UniqueEmpty)
 is_issued_from CleanShared s = same s Invalid || (same s SharedClean || same s UniqueClean)
+is_issued_from ReadOnce s = same s Invalid
 is_issued_from CleanInvalid s = same s Invalid
 is_issued_from MakeInvalid s = same s Invalid
 is_issued_from Evict s = is_clean s
@@ -40,7 +41,6 @@ is_issued_from WriteBackFull s = is_dirty s
 is_issued_from WriteCleanFull s = is_dirty s
 is_issued_from WriteEvictFull s = same s UniqueClean
 is_issued_from WriteUniqueFull s = same s Invalid
-is_issued_from other s = false
 
 -- an Evict gives its copy up
 abbrev pub issued : Kind → Copy → Copy
@@ -256,6 +256,7 @@ completes ReadShared UD = true
 completes ReadShared SD = true
 completes ReadClean SC = true
 completes ReadClean UC = true
+completes ReadOnce I = true
 completes ReadUnique UC = true
 completes ReadUnique UD = true
 completes kind form = false
@@ -290,14 +291,33 @@ is_of f (Completion kind) = f kind
 is_of f (SureCompletion kind) = f kind
 is_of f other = false
 
--- a CleanShared is open: its completion needs a moment since its issue at which no other copy was dirty
+-- the kind of a request that is open, or was retried
+abbrev pub is_open_of : (Kind → Bool) → Due → Bool
+is_open_of f (Completion kind) = f kind
+is_open_of f (Resending kind) = f kind
+is_open_of f (SureCompletion kind) = f kind
+is_open_of f other = false
+
+-- the completion of a CleanShared or a ReadOnce needs a moment since its issue
+abbrev pub is_timed : Kind → Bool
+is_timed CleanShared = true
+is_timed ReadOnce = true
+is_timed other = false
+
 abbrev pub awaits_moment : Due → Bool
-awaits_moment (Completion kind) = same_kind CleanShared kind
-awaits_moment (Resending kind) = same_kind CleanShared kind
-awaits_moment (SureCompletion kind) = same_kind CleanShared kind
-awaits_moment other = false
+awaits_moment d = is_open_of is_timed d
+
+abbrev pub reads_once : Due → Bool
+reads_once d = is_open_of (same_kind ReadOnce) d
+
+-- a request of such a kind
+abbrev pub opens_moment : Act → Bool
+opens_moment (Request kind) = is_timed kind
+opens_moment (Resend kind) = is_timed kind
+opens_moment other = false
 
 abbrev pub needs_moment : Grant → Due → Bool
+needs_moment (CompData form) d = is_of (same_kind ReadOnce) d
 needs_moment CompUC d = is_of (same_kind CleanShared) d
 needs_moment CompSC d = is_of (same_kind CleanShared) d
 needs_moment CompI d = is_of (same_kind CleanShared) d
@@ -306,6 +326,11 @@ needs_moment other d = false
 abbrev pub gives_data : Grant → Bool
 gives_data (CompData form) = true
 gives_data other = false
+
+-- data that leave a copy: in form I they leave what there was
+abbrev pub gives_copy : Grant → Bool
+gives_copy (CompData form) = form_has_data form
+gives_copy other = false
 
 -- it passes the home's duty to write dirty data on
 abbrev pub needs_duty : Grant → Bool
@@ -350,8 +375,12 @@ needs_alone CompI d = is_of is_invalidating d
 needs_alone other d = false
 
 -- the copy of its agent then: data leave a dirty one as it is, but unique
+abbrev pub copy_filled : State → Copy → Copy
+copy_filled I s = s
+copy_filled form s = if is_dirty s then UniqueDirty else copy_of form
+
 abbrev pub copy_granted : Grant → Due → Copy → Copy
-copy_granted (CompData form) d s = if is_dirty s then UniqueDirty else copy_of form
+copy_granted (CompData form) d s = copy_filled form s
 copy_granted CompUC d s = if makes CompUC d then UniqueDirty else (if is_upgraded d then upgraded s else s)
 copy_granted CompDBIDResp d s = if is_written_whole d && not (is_dirty s) then Writing else s
 copy_granted other d s = s
@@ -361,13 +390,17 @@ granted g d h = record { copy = copy_granted g d h.copy; cancelled = h.cancelled
 
 -- its words are the copy's then
 abbrev pub fills : Grant → Held → Bool
-fills g h = gives_data g && not (is_dirty h.copy)
+fills g h = gives_copy g && not (is_dirty h.copy)
+
+-- its words are the home's own: any go to a dirty copy, which keeps its own
+abbrev pub shows : Grant → Held → Bool
+shows g h = gives_data g && (not (gives_copy g) || not (is_dirty h.copy))
 
 abbrev pub due_granted : Grant → Due → Due
 due_granted RetryAck (Completion kind) = Resending kind
 due_granted RetryAck d = d
 due_granted (Snp snoop) d = d
-due_granted (CompData form) d = Acknowledgement
+due_granted (CompData form) d = if form_has_data form then Acknowledgement else Nothing
 due_granted CompUC d = if makes CompUC d || is_upgraded d then Acknowledgement else Nothing
 due_granted CompSC d = Nothing
 due_granted CompI d = Nothing

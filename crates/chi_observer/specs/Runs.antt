@@ -1,5 +1,5 @@
 -- Whole traces, the newest flit first (docs/OBSERVER.md, "Worlds", "What is proved").
-use Rattle.std.specs.Prelude.{◌≡◌, ◌≢◌, ◌⊎◌, ℕ, ◌<◌, Bool, true, false, None, List, [], ◌∷◌, ⊤}
+use Rattle.std.specs.Prelude.{◌≡◌, ◌≢◌, ◌⊎◌, ℕ, ◌<◌, Bool, true, false, ◌&&◌, None, List, [], ◌∷◌, ⊤}
 use Rattle.chi_observer.specs.declared.told.Told.TheVariants.{I}
 use Rattle.chi_observer.specs.declared.flits.Due.TheVariants.{Nothing}
 use Rattle.chi_observer.specs.declared.flits.Flit.{Flit}
@@ -8,9 +8,9 @@ use Rattle.chi_observer.specs.declared.flits.HomeFlit.{HomeFlit}
 use Rattle.chi_observer.specs.Copies.{is_dirty}
 use Rattle.chi_observer.specs.Copies.Copy.{Invalid}
 use Rattle.chi_observer.specs.Judged.{is_judged}
-use Rattle.chi_observer.specs.Rules.{plain, awaits_moment, needs_moment}
+use Rattle.chi_observer.specs.Rules.{plain, awaits_moment, reads_once, needs_moment}
 use Rattle.chi_observer.specs.Worlds.{Public, World, Coherent, Sends, Drift, Gives, Informed, IsSafe, public_after, public_granted}
-use Rattle.chi_observer.specs.Moments.{is_issue, shown_after, has_moment}
+use Rattle.chi_observer.specs.Moments.{is_issue, shown_after, waits_after, has_moment}
 use Rattle.chi_observer.specs.Observed.{Observed, Sound, Meaning, takes, next, takes_home, next_home}
 
 -- THE TRUTH
@@ -37,10 +37,20 @@ Behind (Down g ∷ es) w = (before : World) × After es before × Informed g bef
 abbrev pub NoneDirty : List Flit → ℕ → Type 0
 NoneDirty es n = (w : World) → Behind es w → (m : ℕ) → m < 32 → m ≢ n → is_dirty (w.state m).copy ≡ false
 
--- since the issue of n's CleanShared, which is open, there was a flit behind which surely no other copy was dirty
+abbrev pub HomeIsLast : List Flit → Type 0
+HomeIsLast es = (w : World) → Behind es w → w.home ≡ w.last
+
+-- the moment of n's ReadOnce, or of its CleanShared
+abbrev pub IsMoment : Bool → List Flit → ℕ → Type 0
+IsMoment true es n = HomeIsLast es
+IsMoment false es n = NoneDirty es n
+
+-- since the issue of n's CleanShared or ReadOnce, which is open, there was a flit behind which surely no other copy was
+-- dirty, or the home had the value last stored
 abbrev pub HasMoment : List Flit → ℕ → Type 0
 HasMoment [] n = ⊥
-HasMoment (e ∷ es) n = (awaits_moment ((public_of (e ∷ es)).due n) ≡ true) × (((is_issue e n ≡ false) × HasMoment es n) ⊎ NoneDirty (e ∷ es) n)
+HasMoment (e ∷ es) n = (awaits_moment ((public_of (e ∷ es)).due n) ≡ true)
+    × (((is_issue e n ≡ false) × HasMoment es n) ⊎ IsMoment (reads_once ((public_of (e ∷ es)).due n)) (e ∷ es) n)
 
 abbrev pub HasNeeded : List Flit → HomeFlit → Type 0
 HasNeeded es g = needs_moment g.grant ((public_of es).due g.agent.0) ≡ true → HasMoment es g.agent.0
@@ -61,9 +71,13 @@ seen [] = nothing_told
 seen (Up f ∷ es) = next (seen es) f
 seen (Down g ∷ es) = next_home (seen es) g
 
+abbrev pub waits_by : List Flit → Bool
+waits_by [] = false
+waits_by (e ∷ es) = waits_after (seen (e ∷ es)) e (waits_by es)
+
 abbrev pub shown_by : List Flit → ℕ → Bool
 shown_by [] n = false
-shown_by (e ∷ es) n = shown_after (seen (e ∷ es)) e (shown_by es) n
+shown_by (e ∷ es) n = waits_by (e ∷ es) && shown_after (seen (e ∷ es)) e (shown_by es) n
 
 abbrev pub Accepted : List Flit → Type 0
 Accepted [] = ⊤

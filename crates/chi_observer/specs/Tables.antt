@@ -4,7 +4,7 @@ use Rattle.std.specs.Prelude.{Bool, true, false, ◌&&◌, ◌||◌, not, if◌t
 use Rattle.chi_flit.specs.declared.state.State.{State}
 use Rattle.chi_flit.specs.declared.state.State.TheVariants as states
 use Rattle.chi_observer.specs.declared.kinds.Kind.{Kind}
-use Rattle.chi_observer.specs.declared.kinds.Kind.TheVariants.{ReadNotSharedDirty, ReadShared, ReadClean, ReadUnique, CleanUnique, MakeUnique, CleanShared, CleanInvalid, MakeInvalid, Evict, WriteBackFull, WriteCleanFull, WriteEvictFull, WriteUniqueFull}
+use Rattle.chi_observer.specs.declared.kinds.Kind.TheVariants.{ReadNotSharedDirty, ReadShared, ReadClean, ReadOnce, ReadUnique, CleanUnique, MakeUnique, CleanShared, CleanInvalid, MakeInvalid, Evict, WriteBackFull, WriteCleanFull, WriteEvictFull, WriteUniqueFull}
 use Rattle.chi_observer.specs.declared.told.Told.{Told}
 use Rattle.chi_observer.specs.declared.told.Told.TheVariants.{I, SC, SCOrI, UC, UCOrI, UCE, UCEOrI, UCOrUCE, UD, SD}
 use Rattle.chi_observer.specs.declared.flits.Due.{Due}
@@ -18,7 +18,7 @@ use Rattle.chi_observer.specs.declared.flits.Grant.TheVariants.{RetryAck, CompDa
 use Rattle.chi_observer.specs.Copies.{Copy, Held, copy_of, holds_data, is_unique, is_dirty, is_clean, same, compatible}
 use Rattle.chi_observer.specs.Copies.Copy.{Invalid, SharedClean, UniqueClean, UniqueEmpty, UniqueDirty, SharedDirty, Writing}
 use Rattle.chi_observer.specs.declared.told.Told.TheVariants as tolds
-use Rattle.chi_observer.specs.Rules.{is_free, is_copy_back, is_whole_write, same_kind, left_by, written, gives_data, makes, is_upgraded, is_written_whole}
+use Rattle.chi_observer.specs.Rules.{is_free, is_copy_back, is_whole_write, same_kind, left_by, written, gives_data, gives_copy, makes, is_upgraded, is_written_whole}
 
 -- what is told of a copy, and whether a request of its agent that was retried is surely cancelled
 pub record Known : Type 0 where
@@ -180,6 +180,7 @@ fits_issue ReadClean t = may_be_gone t
 fits_issue ReadUnique t = may_be_gone t || same (strongest t) SharedDirty
 fits_issue CleanUnique t = may_be_gone t || same (strongest t) SharedDirty
 fits_issue MakeUnique t = may_be_gone t || same (strongest t) SharedDirty
+fits_issue ReadOnce t = may_be_gone t
 fits_issue CleanShared t = may_be_gone t
 fits_issue CleanInvalid t = may_be_gone t
 fits_issue MakeInvalid t = may_be_gone t
@@ -188,7 +189,6 @@ fits_issue Evict t = is_clean (strongest t)
 fits_issue WriteBackFull t = is_dirty (strongest t) || is_unique (strongest t)
 fits_issue WriteCleanFull t = is_dirty (strongest t) || is_unique (strongest t)
 fits_issue WriteEvictFull t = same (strongest t) UniqueClean
-fits_issue other t = false
 
 -- or that the answer is given from: a store may have been where the agent has no request open
 abbrev pub fits_answer : Answer → Due → Told → Bool
@@ -233,8 +233,12 @@ told_upgraded t = t
 abbrev pub told_completed : Due → Told → Told
 told_completed d t = if makes CompUC d then UD else (if is_upgraded d then told_upgraded t else t)
 
+abbrev pub told_filled : State → Told → Told
+told_filled states.I t = t
+told_filled form t = if is_dirty (strongest t) then UD else told_as form
+
 abbrev pub told_by : Grant → Due → Told → Told
-told_by (CompData form) d t = if is_dirty (strongest t) then UD else told_as form
+told_by (CompData form) d t = told_filled form t
 told_by CompUC d t = told_completed d t
 told_by CompDBIDResp d t = if is_written_whole d && not (is_dirty (strongest t)) then tolds.Writing else t
 told_by other d t = t
@@ -248,4 +252,7 @@ abbrev pub told_granted : Grant → Due → Known → Known
 told_granted g d k = record { told = told_by g d k.told; cancelled = cancelled_by g k.cancelled }
 
 abbrev pub fills_told : Grant → Known → Bool
-fills_told g k = gives_data g && not (is_dirty (most k))
+fills_told g k = gives_copy g && not (is_dirty (most k))
+
+abbrev pub shows_told : Grant → Known → Bool
+shows_told g k = gives_data g && (not (gives_copy g) || not (is_dirty (most k)))

@@ -7,7 +7,7 @@ use Rattle.chi_observer.specs.declared.flits.CacheFlit.{CacheFlit}
 use Rattle.chi_observer.specs.declared.flits.HomeFlit.{HomeFlit}
 use Rattle.chi_observer.specs.Copies.{Held, holds_data, is_unique, is_clean, is_dirty, same, compatible}
 use Rattle.chi_observer.specs.Copies.Copy.{Invalid, UniqueDirty}
-use Rattle.chi_observer.specs.Rules.{is_free, is_resending, allows, acts, has_data, writes, tells_words, needs_alone, makes, due_after, snooped_after, passes_duty, is_due, needs_duty, needs_quiet, is_busy, granted, fills, due_granted, snooped_granted}
+use Rattle.chi_observer.specs.Rules.{is_free, is_resending, allows, acts, has_data, writes, tells_words, needs_alone, makes, due_after, snooped_after, passes_duty, is_due, needs_duty, needs_quiet, is_busy, granted, fills, shows, due_granted, snooped_granted}
 
 -- what flits say by themselves: requests, snoops without an answer, and whether the home has dirty data that it must
 -- write or pass on
@@ -125,7 +125,7 @@ IsSafe p g w = (home_may p g ≡ true) × ((w' : World) → Gives p g w w' → C
 
 -- the home sends its own copy
 abbrev pub Informed : HomeFlit → World → Type 0
-Informed g w = fills g.grant (w.state g.agent.0) ≡ true → w.home ≡ g.shown
+Informed g w = shows g.grant (w.state g.agent.0) ≡ true → w.home ≡ g.shown
 
 abbrev pub public_granted : HomeFlit → Public → Public
 public_granted g p = record {

@@ -68,23 +68,7 @@ impl Kind {
     pub fn is_judged(self) -> bool
         ensures { result ≡ judges_kind self }
     {
-        match self {
-            Kind::ReadOnce => false,
-            Kind::ReadNotSharedDirty
-            | Kind::ReadShared
-            | Kind::ReadClean
-            | Kind::ReadUnique
-            | Kind::CleanUnique
-            | Kind::MakeUnique
-            | Kind::CleanShared
-            | Kind::CleanInvalid
-            | Kind::MakeInvalid
-            | Kind::Evict
-            | Kind::WriteBackFull
-            | Kind::WriteCleanFull
-            | Kind::WriteEvictFull
-            | Kind::WriteUniqueFull => true,
-        }
+        true
     }
 
     /// Whether it ends with the write data of a copy.

@@ -1,34 +1,92 @@
-//! Moments at which no other copy was dirty.
+//! Moments at which no other copy was dirty, or the home had the value last stored.
 
-ghost use Rattle.std.specs.Prelude.{◌≡◌, ◌<◌, ℕ};
-ghost use Rattle.chi_observer.specs.Moments.{is_issue, may_be_dirty, tells_of};
+ghost use Rattle.std.specs.Prelude.{◌≡◌, ◌<◌, ◌&&◌, ℕ};
+ghost use Rattle.chi_observer.specs.Moments.{is_issue, may_be_dirty, may_be_stored, opens_moment, tells_of};
 ghost use Rattle.chi_observer.specs.Rules.{is_request};
-ghost use Rattle.chi_observer.specs.Lines.{is_clean_beside, known_of, none_dirty_of, shown_here, shown_of};
+ghost use Rattle.chi_observer.specs.Lines.{is_clean_beside, known_of, moment_here, none_dirty_of, none_stored_of, none_waits, shown_here, shown_of, waits_here};
 
 use crate::flits::{Act, Flit};
 use crate::observer::AgentSeen;
-use crate::rules::{awaits_moment, needs_quiet};
+use crate::rules::{awaits_moment, needs_quiet, opens_moment, reads_once};
 use crate::told::may_be_free;
 
-/// Of each agent whose CleanShared is open: whether there was a moment since its issue at which no other copy can have
-/// been dirty, behind the flit; `agents` are as the flit leaves them, and `shown` is as it was before.
-pub(crate) fn shown_behind(agents: &[AgentSeen; 32], shown: &[bool; 32], flit: Flit) -> [bool; 32]
-    ensures { (n : ℕ) → shown_of result n ≡ shown_here agents.now flit (shown_of shown.now n) n }
+/// Whether a CleanShared or a ReadOnce may be open behind the flit, where it is so that one may have been before.
+pub(crate) fn waits_behind(agents: &[AgentSeen; 32], waits: bool, flit: Flit) -> bool
+    ensures { result ≡ waits_here agents.now flit waits }
+{
+    opens(flit) || (waits && !is_none_waiting(agents))
+}
+
+/// Of each agent whose CleanShared or ReadOnce is open: whether there was its moment since its issue, behind the flit;
+/// `agents` and `current` are as the flit leaves them, `shown` is as it was before, and `waits` says that some such
+/// request may be open.
+pub(crate) fn shown_behind(
+    agents: &[AgentSeen; 32],
+    current: bool,
+    waits: bool,
+    shown: &[bool; 32],
+    flit: Flit,
+) -> [bool; 32]
+    ensures { (n : ℕ) → shown_of result n ≡ (waits && shown_here agents.now current flit (shown_of shown.now n) n) }
+{
+    if !waits {
+        return [false; 32];
+    }
+    each_shown(agents, current, shown, flit)
+}
+
+/// The same where some such request may be open.
+fn each_shown(agents: &[AgentSeen; 32], current: bool, shown: &[bool; 32], flit: Flit) -> [bool; 32]
+    ensures { (n : ℕ) → shown_of result n ≡ shown_here agents.now current flit (shown_of shown.now n) n }
 {
     let mut behind = [false; 32];
     for n in 0..32 {
-        behind[n] = is_shown(agents, n, flit, shown[n]);
+        behind[n] = is_shown(agents, current, n, flit, shown[n]);
     }
     behind
 }
 
 /// The same of one agent.
-fn is_shown(agents: &[AgentSeen; 32], agent: usize, flit: Flit, was: bool) -> bool
+fn is_shown(agents: &[AgentSeen; 32], current: bool, agent: usize, flit: Flit, was: bool) -> bool
     requires { agent < 32 }
-    ensures { result ≡ shown_here agents.now flit was agent }
+    ensures { result ≡ shown_here agents.now current flit was agent }
 {
     awaits_moment(agents[agent].due)
-        && ((!is_issue(flit, agent) && was) || is_none_dirty(agents, agent, flit))
+        && ((!is_issue(flit, agent) && was) || is_moment(agents, current, agent, flit))
+}
+
+/// Whether the flit has the moment that the agent's request needs right behind it.
+fn is_moment(agents: &[AgentSeen; 32], current: bool, agent: usize, flit: Flit) -> bool
+    requires { agent < 32 }
+    ensures { result ≡ moment_here agents.now current flit agent }
+{
+    if reads_once(agents[agent].due) {
+        current && is_none_stored(agents, flit)
+    } else {
+        is_none_dirty(agents, agent, flit)
+    }
+}
+
+/// Whether no agent has a CleanShared or a ReadOnce open.
+fn is_none_waiting(agents: &[AgentSeen; 32]) -> bool
+    ensures { result ≡ none_waits agents.now }
+{
+    let mut none = true;
+    for n in 0..32 {
+        none = !awaits_moment(agents[n].due) && none;
+    }
+    none
+}
+
+/// Whether no agent's copy can have been stored to unseen right behind the flit.
+fn is_none_stored(agents: &[AgentSeen; 32], flit: Flit) -> bool
+    ensures { result ≡ none_stored_of agents.now flit }
+{
+    let mut none = true;
+    for n in 0..32 {
+        none = !agents[n].may_be_stored(tells_of(flit, n)) && none;
+    }
+    none
 }
 
 /// Whether no other agent's copy can be dirty right behind the flit.
@@ -47,6 +105,16 @@ fn is_clean_beside(seen: AgentSeen, other: usize, agent: usize, flit: Flit) -> b
     ensures { result ≡ is_clean_beside seen other agent flit }
 {
     other == agent || !seen.may_be_dirty(tells_of(flit, other))
+}
+
+/// Whether the flit is a CleanShared or a ReadOnce.
+fn opens(flit: Flit) -> bool
+    ensures { result ≡ opens_moment flit }
+{
+    match flit {
+        Flit::Up(sent) => opens_moment(sent.act),
+        Flit::Down(_) => false,
+    }
 }
 
 /// Whether the flit is the agent's request.
@@ -77,10 +145,17 @@ fn tells_of(flit: Flit, agent: usize) -> bool
 }
 
 impl AgentSeen {
+    /// Whether the copy may have been stored to unseen; `told` says that the last flit told of it.
+    fn may_be_stored(self, told: bool) -> bool
+        ensures { result ≡ may_be_stored self.due (known_of self) told }
+    {
+        !told && (may_be_free(self.due) && self.told.is_unique())
+    }
+
     /// Whether the copy may be dirty; `told` says that the last flit told of it.
     fn may_be_dirty(self, told: bool) -> bool
         ensures { result ≡ may_be_dirty self.due (known_of self) told }
     {
-        self.told.is_dirty() || (!told && (may_be_free(self.due) && self.told.is_unique()))
+        self.told.is_dirty() || self.may_be_stored(told)
     }
 }

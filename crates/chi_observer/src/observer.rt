@@ -2,7 +2,7 @@
 
 ghost use Rattle.std.specs.Prelude.{◌≡◌, ◌<◌, ◌&&◌, ◌||◌, IfErr, OnOk, OnErr, Some, false, if◌then◌else◌, is_ok, not, true};
 ghost use Rattle.chi_observer.specs.Rules.{allows, makes, needs_duty, passes_duty};
-ghost use Rattle.chi_observer.specs.Tables.{fills_told, fits_told, is_cancelled, renews, strongest};
+ghost use Rattle.chi_observer.specs.Tables.{shows_told, fits_told, is_cancelled, renews, strongest};
 ghost use Rattle.chi_observer.specs.Worlds.{all_below, home_may};
 ghost use Rattle.chi_observer.specs.Observed.{differs, fits, goes, takes, takes_home, next, next_home};
 ghost use Rattle.chi_observer.specs.Moments.{after, has_moment};
@@ -10,11 +10,11 @@ ghost use Rattle.chi_observer.specs.Lines.{agent_after, agent_granted, goes_besi
 
 use crate::flits::{Act, CacheFlit, Due, Flit, Grant, HomeFlit};
 use crate::kinds::Snoop;
-use crate::moments::shown_behind;
+use crate::moments::{shown_behind, waits_behind};
 use crate::rules::{
-    allows, due_after, due_granted, gives_data, has_data, is_busy, is_due, makes, needs_alone,
-    needs_duty, needs_moment, needs_quiet, passes_duty, same_kind, snooped_after, snooped_granted,
-    tells_words,
+    allows, due_after, due_granted, gives_copy, gives_data, has_data, is_busy, is_due, makes,
+    needs_alone, needs_duty, needs_moment, needs_quiet, passes_duty, same_kind, snooped_after,
+    snooped_granted, tells_words,
 };
 use crate::told::{Told, answer_tells_dirty, may_be_free, tells_dirty};
 use chi_flit::Data;
@@ -49,7 +49,10 @@ pub struct Observer {
     pub current: bool,
     /// Whether the home has dirty data that it must write or pass on.
     pub duty: bool,
-    /// Of each agent whose CleanShared is open: there was a moment since its issue at which no other copy was dirty.
+    /// Whether a CleanShared or a ReadOnce may be open.
+    pub waits: bool,
+    /// Of each agent whose CleanShared or ReadOnce is open: there was its moment since its issue. Of a CleanShared one at
+    /// which no other copy was dirty, of a ReadOnce one at which the home had the value last stored.
     pub shown: [bool; 32],
 }
 
@@ -67,7 +70,8 @@ pub enum Reason {
     NotDue,
     /// A CompAck or write data are due at the line, and nothing is snooped meanwhile.
     Busy,
-    /// Since the agent's CleanShared was sent another copy may always have been dirty.
+    /// Since the agent's CleanShared was sent another copy may always have been dirty; or since its ReadOnce was sent the
+    /// home may never have had the value last stored.
     NoMoment,
     /// The home has no dirty data to pass on.
     NoDuty,
@@ -94,6 +98,7 @@ impl Observer {
             home: None,
             current: true,
             duty: false,
+            waits: false,
             shown: [false; 32],
         }
     }
@@ -122,7 +127,8 @@ impl Observer {
         ensures reason { IfErr result (λ reason. is_judged_reason (watched self.old) flit reason ≡ true) }
     {
         self.take_told(flit)?;
-        self.shown = shown_behind(&self.agents, &self.shown, flit);
+        self.waits = waits_behind(&self.agents, self.waits, flit);
+        self.shown = shown_behind(&self.agents, self.current, self.waits, &self.shown, flit);
         Ok(())
     }
 
@@ -132,6 +138,7 @@ impl Observer {
         ensures taken { is_ok result ≡ takes_flit (watched self.old) flit }
         ensures after { OnOk result (observed self.new ≡ after (observed self.old) flit) }
         ensures shown { self.new.shown ≡ self.old.shown }
+        ensures waits { self.new.waits ≡ self.old.waits }
         ensures kept { OnErr result (self.new ≡ self.old) }
         ensures reason { IfErr result (λ reason. is_judged_reason (watched self.old) flit reason ≡ true) }
     {
@@ -169,6 +176,7 @@ impl Observer {
         ensures taken { is_ok result ≡ takes (observed self.old) flit }
         ensures after { OnOk result (observed self.new ≡ next (observed self.old) flit) }
         ensures shown { self.new.shown ≡ self.old.shown }
+        ensures waits { self.new.waits ≡ self.old.waits }
         ensures kept { OnErr result (self.new ≡ self.old) }
         ensures reason { IfErr result (λ reason. is_sent_reason (observed self.old) flit reason ≡ true) }
     {
@@ -198,6 +206,7 @@ impl Observer {
         ensures taken { is_ok result ≡ takes_home (observed self.old) flit }
         ensures after { OnOk result (observed self.new ≡ next_home (observed self.old) flit) }
         ensures shown { self.new.shown ≡ self.old.shown }
+        ensures waits { self.new.waits ≡ self.old.waits }
         ensures kept { OnErr result (self.new ≡ self.old) }
         ensures reason { IfErr result (λ reason. is_given_reason (observed self.old) flit reason ≡ true) }
     {
@@ -212,8 +221,8 @@ impl Observer {
         if needs_quiet(flit.grant) && !is_quiet(&self.agents) {
             return Err(Reason::Busy);
         }
-        let fills = agent.is_filled(flit.grant);
-        if fills && !may_be(&self.home, &flit.shown) {
+        let shows = agent.is_shown(flit.grant);
+        if shows && !may_be(&self.home, &flit.shown) {
             return Err(Reason::OtherWords);
         }
         let told = agent.told.granted(flit.grant, agent.due);
@@ -224,7 +233,7 @@ impl Observer {
         self.agents[at] = agent.granted(flit.grant);
         self.duty = duty_granted(self.duty, flit.grant);
         self.current = current_granted(self.current, flit.grant, agent.due);
-        self.home = shown(fills, flit.shown, self.home);
+        self.home = shown(shows, flit.shown, self.home);
         Ok(())
     }
 }
@@ -280,11 +289,11 @@ impl AgentSeen {
         }
     }
 
-    /// Whether the data of a flit of the home to the agent are its copy's words then.
-    fn is_filled(self, grant: Grant) -> bool
-        ensures { result ≡ fills_told grant (known_of self) }
+    /// Whether the data of a flit of the home to the agent are the home's own words.
+    fn is_shown(self, grant: Grant) -> bool
+        ensures { result ≡ shows_told grant (known_of self) }
     {
-        gives_data(grant) && !self.told.is_dirty()
+        gives_data(grant) && (!gives_copy(grant) || !self.told.is_dirty())
     }
 
     /// What is told of the agent behind a flit of its cache.

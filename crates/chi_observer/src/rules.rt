@@ -1,7 +1,7 @@
 //! What flits say by themselves.
 
 ghost use Rattle.std.specs.Prelude.{◌≡◌};
-ghost use Rattle.chi_observer.specs.Rules.{allows, awaits_moment, completes, due_after, due_granted, form_passes, gives_data, has_data, is_busy, is_clean_form, is_completed, is_due, is_shared_form, is_upgraded, is_written_whole, leaves, left_by, makes, needs_alone, needs_duty, needs_moment, needs_quiet, passes_duty, same_kind, snooped_after, snooped_granted, tells_words, writes, written};
+ghost use Rattle.chi_observer.specs.Rules.{allows, awaits_moment, completes, due_after, due_granted, form_passes, gives_copy, gives_data, has_data, is_busy, is_clean_form, is_completed, is_due, is_shared_form, is_upgraded, is_written_whole, leaves, left_by, makes, needs_alone, needs_duty, needs_moment, needs_quiet, opens_moment, passes_duty, reads_once, same_kind, snooped_after, snooped_granted, tells_words, writes, written};
 
 use crate::flits::{Act, Answer, Due, Grant};
 use crate::kinds::{Kind, Snoop};
@@ -191,9 +191,9 @@ fn completes(kind: Kind, form: State) -> bool
         Kind::ReadNotSharedDirty => matches!(form, State::SC | State::UC | State::UD),
         Kind::ReadShared => !matches!(form, State::I),
         Kind::ReadClean => matches!(form, State::SC | State::UC),
+        Kind::ReadOnce => matches!(form, State::I),
         Kind::ReadUnique => matches!(form, State::UC | State::UD),
-        Kind::ReadOnce
-        | Kind::CleanUnique
+        Kind::CleanUnique
         | Kind::MakeUnique
         | Kind::CleanShared
         | Kind::CleanInvalid
@@ -296,27 +296,56 @@ pub(crate) fn needs_alone(grant: Grant, due: Due) -> bool
     )
 }
 
-/// Whether a CleanShared is open, whose completion needs a moment since its issue at which no other copy was dirty.
+/// Whether a CleanShared or a ReadOnce is open, whose completion needs a moment since its issue.
 pub(crate) fn awaits_moment(due: Due) -> bool
     ensures { result ≡ awaits_moment due }
 {
     matches!(
         due,
-        Due::Completion(Kind::CleanShared)
-            | Due::Resending(Kind::CleanShared)
-            | Due::SureCompletion(Kind::CleanShared)
+        Due::Completion(Kind::CleanShared | Kind::ReadOnce)
+            | Due::Resending(Kind::CleanShared | Kind::ReadOnce)
+            | Due::SureCompletion(Kind::CleanShared | Kind::ReadOnce)
     )
 }
 
-/// Whether a flit of the home is such a completion.
+/// Whether a ReadOnce is open.
+pub(crate) fn reads_once(due: Due) -> bool
+    ensures { result ≡ reads_once due }
+{
+    matches!(
+        due,
+        Due::Completion(Kind::ReadOnce)
+            | Due::Resending(Kind::ReadOnce)
+            | Due::SureCompletion(Kind::ReadOnce)
+    )
+}
+
+/// Whether a flit of a cache is a CleanShared or a ReadOnce.
+pub(crate) fn opens_moment(act: Act) -> bool
+    ensures { result ≡ opens_moment act }
+{
+    matches!(
+        act,
+        Act::Request(Kind::CleanShared | Kind::ReadOnce)
+            | Act::Resend(Kind::CleanShared | Kind::ReadOnce)
+    )
+}
+
+/// Whether a flit of the home is the completion of a CleanShared or a ReadOnce.
 pub(crate) fn needs_moment(grant: Grant, due: Due) -> bool
     ensures { result ≡ needs_moment grant due }
 {
-    matches!(grant, Grant::CompUC | Grant::CompSC | Grant::CompI)
-        && matches!(
+    match grant {
+        Grant::CompData(_) => matches!(
+            due,
+            Due::Completion(Kind::ReadOnce) | Due::SureCompletion(Kind::ReadOnce)
+        ),
+        Grant::CompUC | Grant::CompSC | Grant::CompI => matches!(
             due,
             Due::Completion(Kind::CleanShared) | Due::SureCompletion(Kind::CleanShared)
-        )
+        ),
+        Grant::RetryAck | Grant::Snp(_) | Grant::CompDBIDResp => false,
+    }
 }
 
 /// Whether a flit of the home has data.
@@ -324,6 +353,21 @@ pub(crate) fn gives_data(grant: Grant) -> bool
     ensures { result ≡ gives_data grant }
 {
     matches!(grant, Grant::CompData(_))
+}
+
+/// Whether a flit of the home has data that leave a copy.
+pub(crate) fn gives_copy(grant: Grant) -> bool
+    ensures { result ≡ gives_copy grant }
+{
+    match grant {
+        Grant::CompData(form) => !matches!(form, State::I),
+        Grant::RetryAck
+        | Grant::Snp(_)
+        | Grant::CompUC
+        | Grant::CompSC
+        | Grant::CompI
+        | Grant::CompDBIDResp => false,
+    }
 }
 
 /// Whether a flit of the home passes the duty to write dirty data on.
@@ -362,6 +406,7 @@ pub(crate) fn due_granted(grant: Grant, due: Due) -> Due
     match (grant, due) {
         (Grant::RetryAck, Due::Completion(kind)) => Due::Resending(kind),
         (Grant::RetryAck | Grant::Snp(_), _) => due,
+        (Grant::CompData(State::I), _) => Due::Nothing,
         (Grant::CompData(_), _) => Due::Acknowledgement,
         (Grant::CompUC, _) => if makes(grant, due) || is_upgraded(due) {
             Due::Acknowledgement

@@ -2,7 +2,7 @@
 
 ghost use Rattle.std.specs.Prelude.{◌≡◌, ◌&&◌};
 ghost use Rattle.chi_observer.specs.Copies.{compatible, Copy, holds_data, is_clean, is_dirty, is_unique, same};
-ghost use Rattle.chi_observer.specs.Tables.{answer_tells_dirty, fits_answer, fits_form, fits_issue, may_be_free, may_be_gone, strongest, tells_dirty, told_answered, told_as, told_behind, told_by, told_clean, told_completed, told_empty, told_issued, told_shared, told_unique, told_upgraded};
+ghost use Rattle.chi_observer.specs.Tables.{answer_tells_dirty, fits_answer, fits_form, fits_issue, may_be_free, may_be_gone, strongest, tells_dirty, told_answered, told_as, told_behind, told_by, told_clean, told_completed, told_empty, told_filled, told_issued, told_shared, told_unique, told_upgraded};
 
 use crate::flits::{Act, Answer, Due, Grant};
 use crate::kinds::Kind;
@@ -132,6 +132,7 @@ impl Told {
             Kind::ReadNotSharedDirty
             | Kind::ReadShared
             | Kind::ReadClean
+            | Kind::ReadOnce
             | Kind::CleanShared
             | Kind::CleanInvalid
             | Kind::MakeInvalid
@@ -142,7 +143,6 @@ impl Told {
             Kind::Evict => self.is_clean(),
             Kind::WriteBackFull | Kind::WriteCleanFull => self.is_dirty() || self.is_unique(),
             Kind::WriteEvictFull => self.is_unique_clean(),
-            Kind::ReadOnce => false,
         }
     }
 
@@ -277,11 +277,7 @@ impl Told {
         ensures { result ≡ told_by grant due self }
     {
         match grant {
-            Grant::CompData(form) => if self.is_dirty() {
-                Told::UD
-            } else {
-                told_as(form)
-            },
+            Grant::CompData(form) => self.filled(form),
             Grant::CompUC => self.completed(due),
             Grant::CompDBIDResp => if is_written_whole(due) && !self.is_dirty() {
                 Told::Writing
@@ -289,6 +285,20 @@ impl Told {
                 self
             },
             Grant::RetryAck | Grant::Snp(_) | Grant::CompSC | Grant::CompI => self,
+        }
+    }
+
+    /// What is told behind data of the form.
+    fn filled(self, form: State) -> Told
+        ensures { result ≡ told_filled form self }
+    {
+        match form {
+            State::I => self,
+            State::SC | State::UC | State::UD | State::SD => if self.is_dirty() {
+                Told::UD
+            } else {
+                told_as(form)
+            },
         }
     }
 

@@ -1,7 +1,8 @@
 //! Flits of one line, and the first that isn't taken.
 
-use chi_flit::{Agent, Data};
-use chi_observer::{Act, CacheFlit, Flit, Grant, HomeFlit, Observer, Reason};
+use chi_flit::{Agent, Data, NO_DATA, State};
+use chi_observer::{Act, CacheFlit, Flit, Grant, HomeFlit, Kind, Observer, Reason};
+use std::process::Abort;
 
 /// A value of the line.
 pub(crate) const OLD: Data = [7; 8];
@@ -31,6 +32,25 @@ pub(crate) fn down(agent: u8, grant: Grant, shown: Data) -> Flit {
 pub(crate) fn fault_of(flits: &[Flit]) -> Option<(usize, Reason)> {
     let mut observer = Observer::new();
     for (place, flit) in flits.iter().enumerate() {
+        if let Err(reason) = observer.take(*flit) {
+            return Some((place, reason));
+        }
+    }
+    None
+}
+
+/// What comes of last flits behind agent 0's read of the old words, alone.
+pub(crate) fn fault_beside_an_owner(rt: &impl Abort, last: &[Flit]) -> Option<(usize, Reason)> {
+    let mut observer = Observer::new();
+    let opening = [
+        up(0, Act::Request(Kind::ReadUnique), NO_DATA),
+        down(0, Grant::CompData(State::UC), OLD),
+        up(0, Act::CompAck, NO_DATA),
+    ];
+    for flit in opening {
+        assert!(rt; observer.take(flit) == Ok(()));
+    }
+    for (place, flit) in last.iter().enumerate() {
         if let Err(reason) = observer.take(*flit) {
             return Some((place, reason));
         }

@@ -1,6 +1,6 @@
 //! Kinds of request, snoops and answers beside the profile's, and the first flit that isn't taken.
 
-use crate::flits::{NEW, OLD, down, fault_of, up};
+use crate::flits::{NEW, OLD, down, fault_beside_an_owner, fault_of, up};
 use chi_flit::NO_DATA;
 use chi_flit::State::{SC, UC, UD};
 use chi_observer::Act::{CompAck, CopyBackWrData, NonCopyBackWrData, Request, SnpResp};
@@ -9,14 +9,13 @@ use chi_observer::Answer::{
 };
 use chi_observer::Grant::{CompDBIDResp, CompData, CompI, CompSC, CompUC, Snp};
 use chi_observer::Kind::{
-    CleanInvalid, CleanShared, MakeInvalid, MakeUnique, ReadClean, ReadOnce, ReadShared,
-    ReadUnique, WriteBackFull, WriteEvictFull, WriteUniqueFull,
+    CleanInvalid, CleanShared, MakeInvalid, MakeUnique, ReadClean, ReadShared, ReadUnique,
+    WriteBackFull, WriteEvictFull, WriteUniqueFull,
 };
 use chi_observer::Snoop::{
     SnpCleanInvalid, SnpCleanShared, SnpMakeInvalid, SnpOnce, SnpShared, SnpUnique,
 };
-use chi_observer::{Flit, Observer, Reason};
-use std::process::Abort;
+use chi_observer::{Flit, Reason};
 
 #[test]
 fn a_copy_stays_unique_at_a_snoop_that_lets_it(rt: HostRuntime) {
@@ -89,29 +88,8 @@ fn a_clean_read_takes_no_duty(rt: HostRuntime) {
 
 #[test]
 fn what_is_not_judged_is_said(rt: HostRuntime) {
-    let flits = [up(0, Request(ReadOnce), NO_DATA)];
-    assert!(rt; fault_of(&flits) == Some((0, Reason::NotJudged)));
     let snoops = [down(0, Snp(SnpMakeInvalid), NO_DATA)];
     assert!(rt; fault_of(&snoops) == Some((0, Reason::NotJudged)));
-}
-
-/// What comes of last flits behind agent 0's read of the old words, alone.
-fn fault_beside_an_owner(rt: &impl Abort, last: &[Flit]) -> Option<(usize, Reason)> {
-    let mut observer = Observer::new();
-    let opening = [
-        up(0, Request(ReadUnique), NO_DATA),
-        down(0, CompData(UC), OLD),
-        up(0, CompAck, NO_DATA),
-    ];
-    for flit in opening {
-        assert!(rt; observer.take(flit) == Ok(()));
-    }
-    for (place, flit) in last.iter().enumerate() {
-        if let Err(reason) = observer.take(*flit) {
-            return Some((place, reason));
-        }
-    }
-    None
 }
 
 #[test]

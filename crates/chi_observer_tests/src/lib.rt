@@ -6,4 +6,6 @@ mod flits;
 #[cfg(test)]
 mod kinds;
 #[cfg(test)]
+mod reads;
+#[cfg(test)]
 mod traces;

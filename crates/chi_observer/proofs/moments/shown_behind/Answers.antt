@@ -1,32 +1,16 @@
--- One more is set.
-use Rattle.std.proofs.Common.{rules, arith, ◌≡◌, ◌<◌, ◌+◌, ℕ, length, refl, sym, subst, ◌∙◌, slice_set}
-use Rattle.std.proofs.lemmas.List.{get_or-set_other}
-use Rattle.std.proofs.lemmas.Grind.{get_or-set_at}
-use Rattle.std.specs.Prelude.{false}
+-- Where none can be open none is shown.
+use Rattle.std.proofs.Common.{rules, arith, ◌≡◌, sym, ap, ◌∙◌}
+use Rattle.std.specs.Prelude.{Bool, true, false, ◌&&◌}
 use Rattle.chi_observer.specs.Lines.{shown_of, shown_here}
-use Rattle.chi_observer.proofs.Lines.{shown_all}
-use Rattle.chi_observer.proofs.Put.{split}
+use Rattle.chi_observer.proofs.Lines.{none_shown}
 use Rattle.chi_observer.proofs.moments.shown_behind.Goals as goal
 
-lower : (m n : ℕ) → m < n + 1 → (m ≡ n → ⊥) → m < n
-lower m n h e = search (rules, arith)
-
-pub loop-n-preserved : goal.loop-n-preserved
-loop-n-preserved c =
-    let n = c.loop-n.n in
-    let behind = c.loop-n.behind in
-    let x = c.is_shown.result in
-    let some : n < 32 = search (rules, arith, c.loop-n-test) in
-    let low : n < length behind = subst (λ (k : ℕ). n < k) (sym c.loop-n.invariant.0) some in
-    let whole : length (slice_set behind n x) ≡ 32 = search (rules, arith, c.loop-n.invariant.0) in (
-      whole,
-      split (λ m. m < n + 1 → shown_of (slice_set behind n x) m ≡ shown_here c.args.agents.now c.args.flit (shown_of c.args.shown.now m) m) n
-          (λ _. get_or-set_at behind n n x false refl low ∙ c.is_shown.ensures)
-          (λ m apart below. get_or-set_other behind n m x false apart ∙ c.loop-n.invariant.1 m (lower m n below apart)),
-    )
+pub returns-then-not-waits : goal.returns-then-not-waits
+returns-then-not-waits c =
+    let none : c.args.waits ≡ false = search (rules, arith, c.if-not-waits) in
+    λ n. none_shown c.args.waits c.args.agents.now c.args.current c.args.shown.now c.args.flit n none
 
 pub returns : goal.returns
 returns c =
-    let all : c.loop-n.n ≡ 32 = omega (arith, c.loop-n-test.false, c.loop-n.auto.n-end) in
-    let agents_all : length c.args.agents.now ≡ 32 = search (rules, arith) in
-    shown_all c.args.agents.now c.args.shown.now c.loop-n.behind c.args.flit agents_all c.loop-n.invariant.0 (λ m low. c.loop-n.invariant.1 m (subst (λ (k : ℕ). m < k) (sym all) low))
+    let some : c.args.waits ≡ true = search (rules, arith, c.if-not-waits) in
+    λ n. c.each_shown.ensures n ∙ sym (ap (λ (b : Bool). b && shown_here c.args.agents.now c.args.current c.args.flit (shown_of c.args.shown.now n) n) some)

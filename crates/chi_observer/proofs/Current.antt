@@ -1,0 +1,332 @@
+-- Right behind a flit the home's own copy is surely the value last stored where that is kept, and else in some world not.
+use Rattle.std.proofs.Common.{rules, arith, ◌≡◌, ◌≢◌, ℕ, ◌<◌, List, [], ◌∷◌, suc, length, refl, sym, ap, subst, ◌∙◌}
+use Rattle.std.specs.Prelude.{Bool, true, false, ◌&&◌, ◌||◌, ◌==◌, not}
+use Rattle.std.proofs.lemmas.Bool.{eqb-true}
+use Rattle.chi_flit.specs.declared.numbers.Agent.{Agent}
+use Rattle.chi_observer.specs.declared.kinds.Snoop.{Snoop}
+use Rattle.chi_observer.specs.declared.flits.Due.{Due}
+use Rattle.chi_observer.specs.declared.flits.Grant.{Grant}
+use Rattle.chi_observer.specs.declared.flits.Grant.TheVariants.{RetryAck, Snp, CompData, CompUC, CompSC, CompI, CompDBIDResp}
+use Rattle.chi_observer.specs.declared.flits.CacheFlit.{CacheFlit}
+use Rattle.chi_observer.specs.declared.flits.HomeFlit.{HomeFlit}
+use Rattle.chi_observer.specs.declared.flits.Flit.{Flit}
+use Rattle.chi_observer.specs.declared.flits.Flit.TheVariants.{Up, Down}
+use Rattle.chi_observer.specs.Copies.{Held, is_unique}
+use Rattle.chi_observer.specs.Copies.Copy.{UniqueDirty}
+use Rattle.chi_observer.specs.Rules.{is_resending, needs_quiet, granted, due_granted}
+use Rattle.chi_observer.specs.Tables.{Known, most, reach, fresh, may_be_free, told_granted}
+use Rattle.chi_observer.specs.Worlds.{World, Sends, Gives, put}
+use Rattle.chi_observer.specs.Observed.{Observed, Unstored, Meaning, next, next_home}
+use Rattle.chi_observer.specs.Moments.{tells_of, may_be_stored, home_is_last}
+use Rattle.chi_observer.specs.Runs.{seen, HomeIsLast, Accepted}
+use Rattle.chi_observer.proofs.Finite.{no, left, right, both, implies, follow}
+use Rattle.chi_observer.proofs.Spots.{all_due_copies, each_due_copy}
+use Rattle.chi_observer.proofs.Facts.{turned, top_copy, reach_self, is_settled}
+use Rattle.chi_observer.proofs.Words.{or_words}
+use Rattle.chi_observer.proofs.Put.{here, there, split, differ, unlike}
+use Rattle.chi_observer.proofs.Rewind.{Settled}
+use Rattle.chi_observer.proofs.Grants.{calm_given}
+use Rattle.chi_observer.proofs.Copies.{each_below, below_all, unfresh, fitting}
+use Rattle.chi_observer.proofs.Cache.{last_here}
+use Rattle.chi_observer.proofs.Back.{world_before, before_meant, before_sends}
+use Rattle.chi_observer.proofs.Origin.{world_given, old_meant, old_informed, old_gives}
+use Rattle.chi_observer.proofs.Tops.{top_settled}
+use Rattle.chi_observer.proofs.Runs.{exact}
+
+or_right : (a b : Bool) → (a ≡ false → b ≡ true) → (a || b) ≡ true
+or_right true b h = refl
+or_right false b h = h refl
+
+not_true : (a : Bool) → (a ≡ true → false ≡ true) → not a ≡ true
+not_true true h = h refl
+not_true false h = refl
+
+be_true : (a : Bool) → (a ≡ false → false ≡ true) → a ≡ true
+be_true true h = refl
+be_true false h = h refl
+
+one_of : (a b : Bool) → (a || b) ≡ true → a ≡ false → b ≡ true
+one_of true b h e = no (sym e)
+one_of false b h e = h
+
+-- A COPY THAT CAN'T HAVE BEEN STORED TO
+calm_table : Due → Known → Held → Bool
+calm_table d t s = implies (not (may_be_free d && is_unique (most t))) (not (fresh d t s))
+
+calm_holds : all_due_copies calm_table ≡ true
+unfolding calm_table
+calm_holds = refl
+
+pub calm_copy : (d : Due) (t : Known) (s : Held) → not (may_be_free d && is_unique (most t)) ≡ true → fresh d t s ≡ false
+unfolding calm_table
+calm_copy d t s h = turned _ (follow _ _ (each_due_copy calm_table calm_holds d t s) h)
+
+-- b: the flit told of another copy, or of none
+calm_by : (b : Bool) (d : Due) (t : Known) (s : Held) → b ≡ false → not (may_be_stored d t b) ≡ true → fresh d t s ≡ false
+calm_by true d t s e h = no (sym e)
+calm_by false d t s e h = calm_copy d t s h
+
+-- A COPY THAT MAY HAVE BEEN
+abbrev pub stored_top : Due → Held
+stored_top d = record { copy = UniqueDirty; cancelled = is_resending d }
+
+stored_table : Due → Known → Held → Bool
+stored_table d t s = implies (may_be_free d && is_unique (most t)) (reach d t (stored_top d) && fresh d t (stored_top d))
+
+stored_holds : all_due_copies stored_table ≡ true
+unfolding stored_table
+stored_holds = refl
+
+stored_found : (d : Due) (t : Known) → (may_be_free d && is_unique (most t)) ≡ true → (reach d t (stored_top d) && fresh d t (stored_top d)) ≡ true
+unfolding stored_table
+stored_found d t = follow _ _ (each_due_copy stored_table stored_holds d t (top_copy d t))
+
+-- other words
+abbrev pub others_than : List ℕ → List ℕ
+others_than v = 0 ∷ v
+
+longer : (n : ℕ) → n ≡ suc n → ⊥
+longer n h = search (rules, arith)
+
+others_differ : (v : List ℕ) → v ≡ others_than v → false ≡ true
+others_differ v h = absurd (longer (length v) (ap (λ (xs : List ℕ). length xs) h))
+
+-- each copy the strongest, and the value last stored isn't the home's
+module _ (o : Observed) where
+  abbrev tops : ℕ → Held
+  tops k = top_copy (o.public.due k) (o.told k)
+
+  abbrev was_home : List ℕ
+  was_home = or_words o.home []
+
+  abbrev lost_world : World
+  lost_world = record { state = tops; words = λ _. others_than was_home; last = others_than was_home; home = was_home }
+
+  lost_meant : o.current ≡ false → Meaning o lost_world
+  lost_meant c = record {
+    told = λ k _. reach_self (o.public.due k) (o.told k);
+    words = λ _ _ _. refl;
+    home = λ v e. ap (λ z. or_words z []) e;
+    current = λ e u. no (sym c ∙ e);
+  }
+
+  lost_settled : (n : ℕ) → o.current ≡ false → Settled o n lost_world
+  lost_settled n c = record {
+    undone = record {
+      told = λ k _. reach_self (o.public.due k) (o.told k);
+      words = λ _ _ _. refl;
+      home = λ v e. ap (λ z. or_words z []) e;
+      current = λ e u. no (sym c ∙ e);
+    };
+    top = top_settled (o.public.due n) (o.told n);
+  }
+
+  -- m has stored
+  module _ (m : ℕ) (lm : m < 32) (can : (may_be_free (o.public.due m) && is_unique (most (o.told m))) ≡ true) where
+    abbrev x : Held
+    x = stored_top (o.public.due m)
+
+    abbrev stored_world : World
+    stored_world = record { state = put m x tops; words = λ _. others_than was_home; last = others_than was_home; home = was_home }
+
+    stored_told : (k : ℕ) → k < 32 → reach (o.public.due k) (o.told k) (put m x tops k) ≡ true
+    stored_told = split (λ k. k < 32 → reach (o.public.due k) (o.told k) (put m x tops k) ≡ true) m
+        (λ _. subst (λ z. reach (o.public.due m) (o.told m) z ≡ true) (sym (here m x tops)) (left _ _ (stored_found (o.public.due m) (o.told m) can)))
+        (λ k h _. subst (λ z. reach (o.public.due k) (o.told k) z ≡ true) (sym (there m x tops k h)) (reach_self (o.public.due k) (o.told k)))
+
+    stored_fresh : fresh (o.public.due m) (o.told m) (put m x tops m) ≡ true
+    stored_fresh = subst (λ z. fresh (o.public.due m) (o.told m) z ≡ true) (sym (here m x tops)) (right (reach (o.public.due m) (o.told m) x) _ (stored_found (o.public.due m) (o.told m) can))
+
+    stored_meant : Meaning o stored_world
+    stored_meant = record {
+      told = stored_told;
+      words = λ _ _ _. refl;
+      home = λ v e. ap (λ z. or_words z []) e;
+      current = λ e u. no (sym (u m lm) ∙ stored_fresh);
+    }
+
+    stored_settled : (n : ℕ) → m ≢ n → Settled o n stored_world
+    stored_settled n apart = record {
+      undone = record {
+        told = stored_told;
+        words = λ _ _ _. refl;
+        home = λ v e. ap (λ z. or_words z []) e;
+        current = λ e u. no (sym (u m apart lm) ∙ stored_fresh);
+      };
+      top = subst (λ z. is_settled (o.public.due n) (o.told n) z ≡ true) (sym (there m x tops n (λ e. apart (sym e)))) (top_settled (o.public.due n) (o.told n));
+    }
+
+told_by_none : (b c : Bool) → (not b && c) ≡ true → b ≡ false
+told_by_none true c h = no h
+told_by_none false c h = refl
+
+-- A FLIT OF A CACHE
+module _ (es : List Flit) (f : CacheFlit) (a : Accepted (Up f ∷ es)) where
+  abbrev was : Observed
+  was = seen es
+
+  abbrev now : Observed
+  now = next (seen es) f
+
+  abbrev at : ℕ
+  at = f.agent.0
+
+  pub up_last : home_is_last (next (seen es) f) (Up f) ≡ true → HomeIsLast (Up f ∷ es)
+  up_last h w b =
+      let e = exact es a.0 in
+      let sends : Sends was.public f b.0 w = subst (λ p. Sends p f b.0 w) (sym e.public) b.2 in
+      sym (last_here was f b.0 w e.sound a.1 (e.meant b.0 b.1) sends (left now.current _ h)
+      (λ k apart lk. subst (λ d. fresh d (was.told k) (b.0.state k) ≡ false) (there at _ was.public.due k apart)
+      (subst (λ t. fresh (now.public.due k) t (b.0.state k) ≡ false) (there at _ was.told k apart)
+      (calm_by (k == at) (now.public.due k) (now.told k) (b.0.state k) (unlike k at apart)
+      (each_below 32 (λ m. not (may_be_stored (now.public.due m) (now.told m) (tells_of (Up f) m))) (right now.current _ h) k lk)))))
+
+  shown_false : (w2 : World) → Settled now at w2 → HomeIsLast (Up f ∷ es) → w2.home ≡ w2.last
+  shown_false w2 st all =
+      let e = exact es a.0 in
+      all w2 (world_before was f w2, e.after (world_before was f w2) (before_meant was f w2 e.sound a.1 a.2 st), subst (λ p. Sends p f (world_before was f w2) w2) e.public (before_sends was f w2 e.sound a.1 a.2 st))
+
+  pub up_surely : HomeIsLast (Up f ∷ es) → home_is_last (next (seen es) f) (Up f) ≡ true
+  up_surely all = both now.current _
+      (be_true now.current (λ c. others_differ (was_home now) (shown_false (lost_world now) (lost_settled now at c) all)))
+      (below_all 32 (λ m. not (may_be_stored (now.public.due m) (now.told m) (tells_of (Up f) m))) (λ m lm. not_true _ (λ d.
+      let can : (may_be_free (now.public.due m) && is_unique (most (now.told m))) ≡ true = right (not (m == at)) _ d in
+      others_differ (was_home now) (shown_false (stored_world now m lm can) (stored_settled now m lm can at (differ m at (told_by_none (m == at) _ d))) all))))
+
+-- A FLIT OF THE HOME
+module _ (es : List Flit) (g : HomeFlit) (a : Accepted (Down g ∷ es)) where
+  abbrev kept : Observed
+  kept = seen es
+
+  abbrev left_so : Observed
+  left_so = next_home (seen es) g
+
+  abbrev to : ℕ
+  to = g.agent.0
+
+  abbrev d' : Due
+  d' = due_granted g.grant (kept.public.due to)
+
+  abbrev t' : Known
+  t' = told_granted g.grant (kept.public.due to) (kept.told to)
+
+  module _ (h : home_is_last (next_home (seen es) g) (Down g) ≡ true) (w : World) (m : Meaning (seen es) w) where
+    each_calm : (k : ℕ) → k < 32 → not (may_be_stored (left_so.public.due k) (left_so.told k) (tells_of (Down g) k)) ≡ true
+    each_calm = each_below 32 (λ k. not (may_be_stored (left_so.public.due k) (left_so.told k) (tells_of (Down g) k))) (right left_so.current _ h)
+
+    calm_else : (k : ℕ) → k ≢ to → k < 32 → fresh (kept.public.due k) (kept.told k) (w.state k) ≡ false
+    calm_else k apart lk = subst (λ d. fresh d (kept.told k) (w.state k) ≡ false) (there to d' kept.public.due k apart)
+        (subst (λ t. fresh (left_so.public.due k) t (w.state k) ≡ false) (there to t' kept.told k apart)
+        (calm_by (tells_of (Down g) k) (left_so.public.due k) (left_so.told k) (w.state k) (ap (λ b. b && not (needs_quiet g.grant)) (unlike k to apart)) (each_calm k lk)))
+
+    calm_at : (b : Bool) → needs_quiet g.grant ≡ b → fresh (kept.public.due to) (kept.told to) (w.state to) ≡ false
+    calm_at false q = turned _ (one_of (needs_quiet g.grant) _ (calm_given g.grant (kept.public.due to) (kept.public.snooped to) (kept.told to) (w.state to) (fitting kept g a.1 (left _ _ a.2))) q)
+    calm_at true q = unfresh kept g a.1 (left _ _ a.2) (w.state to) (m.told to a.1)
+        (subst (λ d. fresh d t' (granted g.grant (kept.public.due to) (w.state to)) ≡ false) (here to d' kept.public.due)
+        (subst (λ t. fresh (left_so.public.due to) t (granted g.grant (kept.public.due to) (w.state to)) ≡ false) (here to t' kept.told)
+        (calm_by (tells_of (Down g) to) (left_so.public.due to) (left_so.told to) (granted g.grant (kept.public.due to) (w.state to)) (snooped_none (to == to) (needs_quiet g.grant) q) (each_calm to a.1))))
+      where
+        snooped_none : (b q : Bool) → q ≡ true → (b && not q) ≡ false
+        snooped_none true q e = ap not e
+        snooped_none false q e = refl
+
+    all_calm : Unstored (seen es) w
+    all_calm = split (λ k. k < 32 → fresh (kept.public.due k) (kept.told k) (w.state k) ≡ false) to (λ _. calm_at (needs_quiet g.grant) refl) calm_else
+
+  pub down_last : home_is_last (next_home (seen es) g) (Down g) ≡ true → HomeIsLast (Down g ∷ es)
+  down_last h w b =
+      let e = exact es a.0 in
+      let gives : Gives kept.public g b.0 w = subst (λ q. Gives q g b.0 w) (sym e.public) b.3 in
+      let meant = e.meant b.0 b.1 in
+      let now : left_so.current ≡ true = left left_so.current _ h in
+      gives.home ∙ sym (meant.current (left kept.current _ now) (all_calm h b.0 meant)) ∙ sym (gives.last (turned _ (right kept.current _ now)))
+
+  down_false : (w2 : World) → Settled left_so to w2 → HomeIsLast (Down g ∷ es) → w2.home ≡ w2.last
+  down_false w2 st all =
+      let e = exact es a.0 in
+      let un = st.undone in
+      let top : (needs_quiet g.grant || is_settled (left_so.public.due to) (left_so.told to) (w2.state to)) ≡ true = or_right (needs_quiet g.grant) _ (λ _. st.top) in
+      all w2 (world_given kept g w2, e.after (world_given kept g w2) (old_meant kept g w2 e.sound a.1 a.2 un top), old_informed kept g w2 e.sound a.1 a.2 un top, subst (λ q. Gives q g (world_given kept g w2) w2) e.public (old_gives kept g w2 e.sound a.1 a.2 un top))
+
+  given_surely : needs_quiet g.grant ≡ false → HomeIsLast (Down g ∷ es) → home_is_last (next_home (seen es) g) (Down g) ≡ true
+  given_surely q all = both left_so.current _
+      (be_true left_so.current (λ c. others_differ (was_home left_so) (down_false (lost_world left_so) (lost_settled left_so to c) all)))
+      (below_all 32 (λ m. not (may_be_stored (left_so.public.due m) (left_so.told m) (tells_of (Down g) m))) (λ m lm. not_true _ (λ d.
+      let can : (may_be_free (left_so.public.due m) && is_unique (most (left_so.told m))) ≡ true = right (not (tells_of (Down g) m)) _ d in
+      others_differ (was_home left_so) (down_false (stored_world left_so m lm can) (stored_settled left_so m lm can to (differ m to (apart (m == to) (needs_quiet g.grant) _ q d))) all))))
+    where
+      apart : (b q c : Bool) → q ≡ false → (not (b && not q) && c) ≡ true → b ≡ false
+      apart true true c e h = no (sym e)
+      apart true false c e h = no h
+      apart false q c e h = refl
+
+-- a snoop changes nothing of what a world is
+abbrev pub snoop_to : Agent → Snoop → List ℕ → HomeFlit
+snoop_to agent x shown = record { agent = agent; grant = Snp x; shown = shown }
+
+module _ (es : List Flit) (agent : Agent) (x : Snoop) (shown : List ℕ) (a : Accepted (Down (snoop_to agent x shown) ∷ es)) where
+  abbrev past : Observed
+  past = seen es
+
+  abbrev asked : Observed
+  asked = next_home (seen es) (snoop_to agent x shown)
+
+  same_due : (k : ℕ) → asked.public.due k ≡ past.public.due k
+  same_due = split (λ k. put agent.0 (past.public.due agent.0) past.public.due k ≡ past.public.due k) agent.0 (here agent.0 _ past.public.due) (λ k h. there agent.0 _ past.public.due k h)
+
+  same_told : (k : ℕ) → asked.told k ≡ past.told k
+  same_told = split (λ k. put agent.0 (past.told agent.0) past.told k ≡ past.told k) agent.0 (here agent.0 _ past.told) (λ k h. there agent.0 _ past.told k h)
+
+  same_current : asked.current ≡ past.current
+  same_current = all_true past.current
+    where
+      all_true : (c : Bool) → (c && true) ≡ c
+      all_true true = refl
+      all_true false = refl
+
+  past_meant : (w : World) → Meaning asked w → Meaning past w
+  past_meant w m = record {
+    told = λ k lk. subst (λ d. reach d (past.told k) (w.state k) ≡ true) (same_due k) (subst (λ t. reach (asked.public.due k) t (w.state k) ≡ true) (same_told k) (m.told k lk));
+    words = m.words;
+    home = m.home;
+    current = λ c u. m.current (same_current ∙ c) (λ k lk. subst (λ d. fresh d (asked.told k) (w.state k) ≡ false) (sym (same_due k)) (subst (λ t. fresh (past.public.due k) t (w.state k) ≡ false) (sym (same_told k)) (u k lk)));
+  }
+
+  snoop_false : (w : World) → Meaning asked w → HomeIsLast (Down (snoop_to agent x shown) ∷ es) → w.home ≡ w.last
+  snoop_false w m all = all w (
+    w,
+    (exact es a.0).after w (past_meant w m),
+    λ f. no f,
+    record {
+      state = refl;
+      home = refl;
+      words = λ _ _. refl;
+      last = λ _. refl;
+      made = λ f. no f;
+      others = record { state = λ _ _ _. refl; words = λ _ _ _. refl };
+    },
+  )
+
+  snoop_surely : HomeIsLast (Down (snoop_to agent x shown) ∷ es) → home_is_last asked (Down (snoop_to agent x shown)) ≡ true
+  snoop_surely all = both asked.current _
+      (be_true asked.current (λ c. others_differ (was_home asked) (snoop_false (lost_world asked) (lost_meant asked c) all)))
+      (below_all 32 (λ m. not (may_be_stored (asked.public.due m) (asked.told m) (tells_of (Down (snoop_to agent x shown)) m))) (λ m lm. not_true _ (λ d.
+      let can : (may_be_free (asked.public.due m) && is_unique (most (asked.told m))) ≡ true = right (not (tells_of (Down (snoop_to agent x shown)) m)) _ d in
+      others_differ (was_home asked) (snoop_false (stored_world asked m lm can) (stored_meant asked m lm can) all))))
+
+quiet_surely : (es : List Flit) (agent : Agent) (grant : Grant) (shown : List ℕ) (a : Accepted (Down (record { agent = agent; grant = grant; shown = shown }) ∷ es)) → needs_quiet grant ≡ true
+    → HomeIsLast (Down (record { agent = agent; grant = grant; shown = shown }) ∷ es) → home_is_last (next_home (seen es) (record { agent = agent; grant = grant; shown = shown })) (Down (record { agent = agent; grant = grant; shown = shown })) ≡ true
+quiet_surely es agent (Snp x) shown a q = snoop_surely es agent x shown a
+quiet_surely es agent RetryAck shown a q = no q
+quiet_surely es agent (CompData s) shown a q = no q
+quiet_surely es agent CompUC shown a q = no q
+quiet_surely es agent CompSC shown a q = no q
+quiet_surely es agent CompI shown a q = no q
+quiet_surely es agent CompDBIDResp shown a q = no q
+
+surely_by : (es : List Flit) (g : HomeFlit) (a : Accepted (Down g ∷ es)) (b : Bool) → needs_quiet g.grant ≡ b → HomeIsLast (Down g ∷ es) → home_is_last (next_home (seen es) g) (Down g) ≡ true
+surely_by es g a true q = quiet_surely es g.agent g.grant g.shown a q
+surely_by es g a false q = given_surely es g a q
+
+pub down_surely : (es : List Flit) (g : HomeFlit) (a : Accepted (Down g ∷ es)) → HomeIsLast (Down g ∷ es) → home_is_last (next_home (seen es) g) (Down g) ≡ true
+down_surely es g a = surely_by es g a (needs_quiet g.grant) refl
