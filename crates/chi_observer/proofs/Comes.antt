@@ -5,7 +5,7 @@ use Rattle.chi_observer.specs.declared.flits.Due.{Due}
 use Rattle.chi_observer.specs.declared.flits.CacheFlit.{CacheFlit}
 use Rattle.chi_observer.specs.Copies.{Held, holds_data, same}
 use Rattle.chi_observer.specs.Copies.Copy.{Invalid, UniqueDirty}
-use Rattle.chi_observer.specs.Rules.{allows, tells_words}
+use Rattle.chi_observer.specs.Rules.{allows, lets_go, throws, tells_words}
 use Rattle.chi_observer.specs.Tables.{Known, most, reach, fresh, goes_with, fits_told, told_after, renews}
 use Rattle.chi_observer.specs.Worlds.{World, Elsewhere, Stores, Drops, Cancels, Hidden, put}
 use Rattle.chi_observer.specs.Observed.{Observed, Sound, Unstored, Meaning, takes, differs, next}
@@ -29,36 +29,47 @@ module _ (o : Observed) (f : CacheFlit) (sound : Sound o) (low : f.agent.0 < 32)
   abbrev d : Due
   d = o.public.due at
 
+  abbrev x : Bool
+  x = lets_go (o.public.snooped at)
+
   abbrev b : Bool
   b = differs o f
 
   abbrev left_told : Known
   left_told = told_after f.act d (o.told at) b
 
-  fitting : fits_told f.act d (o.told at) ≡ true
+  fitting : fits_told f.act x d (o.told at) ≡ true
   fitting = left _ _ (right (allows f.act (o.public.snooped at)) _ take)
 
   goes : (m : ℕ) → m ≢ at → m < 32 → goes_with left_told (o.told m) ≡ true
-  goes m h k = told_goes f.act d (o.told at) (o.told m) b fitting (sound.pairs at m low k (λ e. h (sym e)))
+  goes m h k = told_goes f.act x d (o.told at) (o.told m) b fitting (sound.pairs at m low k (λ e. h (sym e)))
 
-  stays : tells_words f.act ≡ false → (same (most (o.told at)) UniqueDirty || renews f.act d (o.told at)) ≡ true → same (most (put at left_told o.told at)) UniqueDirty ≡ true
-  stays e h = subst (λ x. same (most x) UniqueDirty ≡ true) (sym (here at left_told o.told)) (stays_dirty f.act d (o.told at) b (both _ _ fitting (both _ _ (flip _ e) h)))
+  stays : (tells_words f.act || throws f.act x) ≡ false → (same (most (o.told at)) UniqueDirty || renews f.act x d (o.told at)) ≡ true → same (most (put at left_told o.told at)) UniqueDirty ≡ true
+  stays e h = subst (λ z. same (most z) UniqueDirty ≡ true) (sym (here at left_told o.told)) (stays_dirty f.act x d (o.told at) b (both _ _ fitting (both _ _ (flip _ e) h)))
 
-  owner_by : (h r : Bool) → tells_words f.act ≡ h → renews f.act d (o.told at) ≡ r → (if h then true else (if r then false else o.current)) ≡ false → (k : ℕ) × (k < 32) × (same (most (put at left_told o.told k)) UniqueDirty ≡ true)
-  owner_by true r hd hr e = no (sym e)
-  owner_by false true hd hr e = (at, low, stays hd (or_true (same (most (o.told at)) UniqueDirty) _ hr))
-  owner_by false false hd hr e = let w = sound.owner e in (
+  neither : (p q : Bool) → p ≡ false → q ≡ false → (p || q) ≡ false
+  neither p q h e = (λ i. h i || e i)
+
+  not_before : (p q : Bool) → (p || q) ≡ false → p ≡ false
+  not_before true q h = no (sym h)
+  not_before false q h = refl
+
+  owner_by : (h r g : Bool) → tells_words f.act ≡ h → renews f.act x d (o.told at) ≡ r → throws f.act x ≡ g → (if h then true else (if r then false else o.current)) ≡ false → (if h then false else o.public.thrown || g) ≡ false → (k : ℕ) × (k < 32) × (same (most (put at left_told o.told k)) UniqueDirty ≡ true)
+  owner_by true r g hd hr hg e th = no (sym e)
+  owner_by false r true hd hr hg e th = no (sym th ∙ or_true o.public.thrown true refl)
+  owner_by false true false hd hr hg e th = (at, low, stays (neither _ _ hd hg) (or_true (same (most (o.told at)) UniqueDirty) _ hr))
+  owner_by false false false hd hr hg e th = let w = sound.owner e (not_before o.public.thrown false th) in (
     w.0,
     w.1,
     split (λ k. same (most (o.told k)) UniqueDirty ≡ true → same (most (put at left_told o.told k)) UniqueDirty ≡ true) at
-        (λ h. stays hd (or_left _ (renews f.act d (o.told at)) h)) (λ k c h. subst (λ x. same (most x) UniqueDirty ≡ true) (sym (there at left_told o.told k c)) h) w.0 w.2,
+        (λ h. stays (neither _ _ hd hg) (or_left _ (renews f.act x d (o.told at)) h)) (λ k c h. subst (λ z. same (most z) UniqueDirty ≡ true) (sym (there at left_told o.told k c)) h) w.0 w.2,
   )
 
   kept_here : Sound (next o f)
   kept_here = record {
     pairs = λ i j li lj e. pairwise (λ i j a b. i < 32 → j < 32 → goes_with a b ≡ true) at left_told o.told
         (λ m h l k. goes m h k) (λ m h k l. goes_back left_told (o.told m) (goes m h k)) (λ i j e li lj. sound.pairs i j li lj e) i j e li lj;
-    owner = owner_by (tells_words f.act) (renews f.act d (o.told at)) refl refl;
+    owner = λ e th. owner_by (tells_words f.act) (renews f.act x d (o.told at)) (throws f.act x) refl refl refl e th;
   }
 
 pub kept : CacheFlitsKeepSound

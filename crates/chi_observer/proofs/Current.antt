@@ -1,7 +1,6 @@
 -- Right behind a flit the home's own copy is surely the value last stored where that is kept, and else in some world not.
-use Rattle.std.proofs.Common.{rules, arith, ◌≡◌, ◌≢◌, ℕ, ◌<◌, List, [], ◌∷◌, suc, length, refl, sym, ap, subst, ◌∙◌}
-use Rattle.std.specs.Prelude.{Bool, true, false, ◌&&◌, ◌||◌, ◌==◌, not}
-use Rattle.std.proofs.lemmas.Bool.{eqb-true}
+use Rattle.std.proofs.Common.{◌≡◌, ◌≢◌, ℕ, ◌<◌, List, [], ◌∷◌, refl, sym, ap, subst, ◌∙◌}
+use Rattle.std.specs.Prelude.{Bool, true, false, ◌&&◌, ◌||◌, ◌==◌, not, if◌then◌else◌}
 use Rattle.chi_flit.specs.declared.numbers.Agent.{Agent}
 use Rattle.chi_observer.specs.declared.kinds.Snoop.{Snoop}
 use Rattle.chi_observer.specs.declared.flits.Due.{Due}
@@ -13,19 +12,19 @@ use Rattle.chi_observer.specs.declared.flits.Flit.{Flit}
 use Rattle.chi_observer.specs.declared.flits.Flit.TheVariants.{Up, Down}
 use Rattle.chi_observer.specs.Copies.{Held, is_unique}
 use Rattle.chi_observer.specs.Copies.Copy.{UniqueDirty}
-use Rattle.chi_observer.specs.Rules.{is_resending, needs_quiet, granted, due_granted}
-use Rattle.chi_observer.specs.Tables.{Known, most, reach, fresh, may_be_free, told_granted}
+use Rattle.chi_observer.specs.Rules.{may_be_free, is_resending, needs_quiet, granted, makes, settles, due_granted}
+use Rattle.chi_observer.specs.Tables.{Known, most, reach, fresh, told_granted}
 use Rattle.chi_observer.specs.Worlds.{World, Sends, Gives, put}
 use Rattle.chi_observer.specs.Observed.{Observed, Unstored, Meaning, next, next_home}
 use Rattle.chi_observer.specs.Moments.{tells_of, may_be_stored, home_is_last}
-use Rattle.chi_observer.specs.Runs.{seen, HomeIsLast, Accepted}
+use Rattle.chi_observer.specs.Runs.{seen, Behind, HomeIsLast, Accepted}
 use Rattle.chi_observer.proofs.Finite.{no, left, right, both, implies, follow}
 use Rattle.chi_observer.proofs.Spots.{all_due_copies, each_due_copy}
 use Rattle.chi_observer.proofs.Facts.{turned, top_copy, reach_self, is_settled}
-use Rattle.chi_observer.proofs.Words.{or_words}
+use Rattle.chi_observer.proofs.Words.{or_words, others_than, others_differ, be_true}
 use Rattle.chi_observer.proofs.Put.{here, there, split, differ, unlike}
 use Rattle.chi_observer.proofs.Rewind.{Settled}
-use Rattle.chi_observer.proofs.Grants.{calm_given}
+use Rattle.chi_observer.proofs.Grants.{calm_given, settled_unmade}
 use Rattle.chi_observer.proofs.Copies.{each_below, below_all, unfresh, fitting}
 use Rattle.chi_observer.proofs.Cache.{last_here}
 use Rattle.chi_observer.proofs.Back.{world_before, before_meant, before_sends}
@@ -40,10 +39,6 @@ or_right false b h = h refl
 not_true : (a : Bool) → (a ≡ true → false ≡ true) → not a ≡ true
 not_true true h = h refl
 not_true false h = refl
-
-be_true : (a : Bool) → (a ≡ false → false ≡ true) → a ≡ true
-be_true true h = refl
-be_true false h = h refl
 
 one_of : (a b : Bool) → (a || b) ≡ true → a ≡ false → b ≡ true
 one_of true b h e = no (sym e)
@@ -62,7 +57,7 @@ unfolding calm_table
 calm_copy d t s h = turned _ (follow _ _ (each_due_copy calm_table calm_holds d t s) h)
 
 -- b: the flit told of another copy, or of none
-calm_by : (b : Bool) (d : Due) (t : Known) (s : Held) → b ≡ false → not (may_be_stored d t b) ≡ true → fresh d t s ≡ false
+pub calm_by : (b : Bool) (d : Due) (t : Known) (s : Held) → b ≡ false → not (may_be_stored d t b) ≡ true → fresh d t s ≡ false
 calm_by true d t s e h = no (sym e)
 calm_by false d t s e h = calm_copy d t s h
 
@@ -81,25 +76,15 @@ stored_found : (d : Due) (t : Known) → (may_be_free d && is_unique (most t)) �
 unfolding stored_table
 stored_found d t = follow _ _ (each_due_copy stored_table stored_holds d t (top_copy d t))
 
--- other words
-abbrev pub others_than : List ℕ → List ℕ
-others_than v = 0 ∷ v
-
-longer : (n : ℕ) → n ≡ suc n → ⊥
-longer n h = search (rules, arith)
-
-others_differ : (v : List ℕ) → v ≡ others_than v → false ≡ true
-others_differ v h = absurd (longer (length v) (ap (λ (xs : List ℕ). length xs) h))
-
 -- each copy the strongest, and the value last stored isn't the home's
 module _ (o : Observed) where
-  abbrev tops : ℕ → Held
+  abbrev pub tops : ℕ → Held
   tops k = top_copy (o.public.due k) (o.told k)
 
-  abbrev was_home : List ℕ
+  abbrev pub was_home : List ℕ
   was_home = or_words o.home []
 
-  abbrev lost_world : World
+  abbrev pub lost_world : World
   lost_world = record { state = tops; words = λ _. others_than was_home; last = others_than was_home; home = was_home }
 
   lost_meant : o.current ≡ false → Meaning o lost_world
@@ -110,7 +95,7 @@ module _ (o : Observed) where
     current = λ e u. no (sym c ∙ e);
   }
 
-  lost_settled : (n : ℕ) → o.current ≡ false → Settled o n lost_world
+  pub lost_settled : (n : ℕ) → o.current ≡ false → Settled o n lost_world
   lost_settled n c = record {
     undone = record {
       told = λ k _. reach_self (o.public.due k) (o.told k);
@@ -171,20 +156,25 @@ module _ (es : List Flit) (f : CacheFlit) (a : Accepted (Up f ∷ es)) where
   abbrev at : ℕ
   at = f.agent.0
 
+  pub up_calm : (w : World) (k : ℕ) → k ≢ at → not (may_be_stored (now.public.due k) (now.told k) (tells_of (Up f) k)) ≡ true → fresh (was.public.due k) (was.told k) (w.state k) ≡ false
+  up_calm w k apart h = subst (λ d. fresh d (was.told k) (w.state k) ≡ false) (there at _ was.public.due k apart)
+      (subst (λ t. fresh (now.public.due k) t (w.state k) ≡ false) (there at _ was.told k apart)
+      (calm_by (k == at) (now.public.due k) (now.told k) (w.state k) (unlike k at apart) h))
+
   pub up_last : home_is_last (next (seen es) f) (Up f) ≡ true → HomeIsLast (Up f ∷ es)
   up_last h w b =
       let e = exact es a.0 in
       let sends : Sends was.public f b.0 w = subst (λ p. Sends p f b.0 w) (sym e.public) b.2 in
       sym (last_here was f b.0 w e.sound a.1 (e.meant b.0 b.1) sends (left now.current _ h)
-      (λ k apart lk. subst (λ d. fresh d (was.told k) (b.0.state k) ≡ false) (there at _ was.public.due k apart)
-      (subst (λ t. fresh (now.public.due k) t (b.0.state k) ≡ false) (there at _ was.told k apart)
-      (calm_by (k == at) (now.public.due k) (now.told k) (b.0.state k) (unlike k at apart)
-      (each_below 32 (λ m. not (may_be_stored (now.public.due m) (now.told m) (tells_of (Up f) m))) (right now.current _ h) k lk)))))
+      (λ k apart lk. up_calm b.0 k apart (each_below 32 (λ m. not (may_be_stored (now.public.due m) (now.told m) (tells_of (Up f) m))) (right now.current _ h) k lk)))
+
+  pub up_behind : (w2 : World) → Settled now at w2 → Behind (Up f ∷ es) w2
+  up_behind w2 st =
+      let e = exact es a.0 in
+      (world_before was f w2, e.after (world_before was f w2) (before_meant was f w2 e.sound a.1 a.2 st), subst (λ p. Sends p f (world_before was f w2) w2) e.public (before_sends was f w2 e.sound a.1 a.2 st))
 
   shown_false : (w2 : World) → Settled now at w2 → HomeIsLast (Up f ∷ es) → w2.home ≡ w2.last
-  shown_false w2 st all =
-      let e = exact es a.0 in
-      all w2 (world_before was f w2, e.after (world_before was f w2) (before_meant was f w2 e.sound a.1 a.2 st), subst (λ p. Sends p f (world_before was f w2) w2) e.public (before_sends was f w2 e.sound a.1 a.2 st))
+  shown_false w2 st all = all w2 (up_behind w2 st)
 
   pub up_surely : HomeIsLast (Up f ∷ es) → home_is_last (next (seen es) f) (Up f) ≡ true
   up_surely all = both now.current _
@@ -210,43 +200,53 @@ module _ (es : List Flit) (g : HomeFlit) (a : Accepted (Down g ∷ es)) where
   abbrev t' : Known
   t' = told_granted g.grant (kept.public.due to) (kept.told to)
 
-  module _ (h : home_is_last (next_home (seen es) g) (Down g) ≡ true) (w : World) (m : Meaning (seen es) w) where
-    each_calm : (k : ℕ) → k < 32 → not (may_be_stored (left_so.public.due k) (left_so.told k) (tells_of (Down g) k)) ≡ true
-    each_calm = each_below 32 (λ k. not (may_be_stored (left_so.public.due k) (left_so.told k) (tells_of (Down g) k))) (right left_so.current _ h)
-
-    calm_else : (k : ℕ) → k ≢ to → k < 32 → fresh (kept.public.due k) (kept.told k) (w.state k) ≡ false
-    calm_else k apart lk = subst (λ d. fresh d (kept.told k) (w.state k) ≡ false) (there to d' kept.public.due k apart)
-        (subst (λ t. fresh (left_so.public.due k) t (w.state k) ≡ false) (there to t' kept.told k apart)
-        (calm_by (tells_of (Down g) k) (left_so.public.due k) (left_so.told k) (w.state k) (ap (λ b. b && not (needs_quiet g.grant)) (unlike k to apart)) (each_calm k lk)))
-
-    calm_at : (b : Bool) → needs_quiet g.grant ≡ b → fresh (kept.public.due to) (kept.told to) (w.state to) ≡ false
-    calm_at false q = turned _ (one_of (needs_quiet g.grant) _ (calm_given g.grant (kept.public.due to) (kept.public.snooped to) (kept.told to) (w.state to) (fitting kept g a.1 (left _ _ a.2))) q)
-    calm_at true q = unfresh kept g a.1 (left _ _ a.2) (w.state to) (m.told to a.1)
+  module _ (w : World) (m : Meaning (seen es) w) where
+    calm_at : (b : Bool) → needs_quiet g.grant ≡ b → not (may_be_stored (left_so.public.due to) (left_so.told to) (tells_of (Down g) to)) ≡ true → fresh (kept.public.due to) (kept.told to) (w.state to) ≡ false
+    calm_at false q h = turned _ (one_of (needs_quiet g.grant) _ (calm_given g.grant (kept.public.due to) (kept.public.snooped to) (kept.told to) (w.state to) (fitting kept g a.1 (left _ _ a.2))) q)
+    calm_at true q h = unfresh kept g a.1 (left _ _ a.2) (w.state to) (m.told to a.1)
         (subst (λ d. fresh d t' (granted g.grant (kept.public.due to) (w.state to)) ≡ false) (here to d' kept.public.due)
         (subst (λ t. fresh (left_so.public.due to) t (granted g.grant (kept.public.due to) (w.state to)) ≡ false) (here to t' kept.told)
-        (calm_by (tells_of (Down g) to) (left_so.public.due to) (left_so.told to) (granted g.grant (kept.public.due to) (w.state to)) (snooped_none (to == to) (needs_quiet g.grant) q) (each_calm to a.1))))
+        (calm_by (tells_of (Down g) to) (left_so.public.due to) (left_so.told to) (granted g.grant (kept.public.due to) (w.state to)) (snooped_none (to == to) (needs_quiet g.grant) q) h)))
       where
         snooped_none : (b q : Bool) → q ≡ true → (b && not q) ≡ false
         snooped_none true q e = ap not e
         snooped_none false q e = refl
 
-    all_calm : Unstored (seen es) w
-    all_calm = split (λ k. k < 32 → fresh (kept.public.due k) (kept.told k) (w.state k) ≡ false) to (λ _. calm_at (needs_quiet g.grant) refl) calm_else
+    pub down_calm : (k : ℕ) → k < 32 → not (may_be_stored (left_so.public.due k) (left_so.told k) (tells_of (Down g) k)) ≡ true → fresh (kept.public.due k) (kept.told k) (w.state k) ≡ false
+    down_calm = split (λ k. k < 32 → not (may_be_stored (left_so.public.due k) (left_so.told k) (tells_of (Down g) k)) ≡ true → fresh (kept.public.due k) (kept.told k) (w.state k) ≡ false) to
+        (λ _ h. calm_at (needs_quiet g.grant) refl h)
+        (λ k apart lk h. subst (λ d. fresh d (kept.told k) (w.state k) ≡ false) (there to d' kept.public.due k apart)
+        (subst (λ t. fresh (left_so.public.due k) t (w.state k) ≡ false) (there to t' kept.told k apart)
+        (calm_by (tells_of (Down g) k) (left_so.public.due k) (left_so.told k) (w.state k) (ap (λ b. b && not (needs_quiet g.grant)) (unlike k to apart)) h)))
+
+  -- the home has the value where nobody had stored before
+  module _ (w : World) (b : Behind (Down g ∷ es) w) where
+    abbrev sent_in : Gives kept.public g b.0 w
+    sent_in = subst (λ q. Gives q g b.0 w) (sym (exact es a.0).public) b.3
+
+    home_by : (z : Bool) → settles g.grant (kept.public.due to) ≡ z → left_so.current ≡ true → Unstored (seen es) b.0 → w.home ≡ w.last
+    home_by true z c u = sent_in.home ∙ sym (sent_in.last (settled_unmade g.grant (kept.public.due to) z) ∙ ap (λ q. if q then b.0.home else b.0.last) z)
+    home_by false z c u =
+        let still : (kept.current && not (makes g.grant (kept.public.due to))) ≡ true = one_of (settles g.grant (kept.public.due to)) _ c z in
+        sent_in.home ∙ sym (((exact es a.0).meant b.0 b.1).current (left kept.current _ still) u)
+        ∙ sym (sent_in.last (turned _ (right kept.current _ still)) ∙ ap (λ q. if q then b.0.home else b.0.last) z)
+
+    pub down_home : left_so.current ≡ true → Unstored (seen es) b.0 → w.home ≡ w.last
+    down_home c u = home_by (settles g.grant (kept.public.due to)) refl c u
 
   pub down_last : home_is_last (next_home (seen es) g) (Down g) ≡ true → HomeIsLast (Down g ∷ es)
-  down_last h w b =
-      let e = exact es a.0 in
-      let gives : Gives kept.public g b.0 w = subst (λ q. Gives q g b.0 w) (sym e.public) b.3 in
-      let meant = e.meant b.0 b.1 in
-      let now : left_so.current ≡ true = left left_so.current _ h in
-      gives.home ∙ sym (meant.current (left kept.current _ now) (all_calm h b.0 meant)) ∙ sym (gives.last (turned _ (right kept.current _ now)))
+  down_last h w b = down_home w b (left left_so.current _ h) (λ k lk. down_calm b.0 ((exact es a.0).meant b.0 b.1) k lk
+      (each_below 32 (λ m. not (may_be_stored (left_so.public.due m) (left_so.told m) (tells_of (Down g) m))) (right left_so.current _ h) k lk))
 
-  down_false : (w2 : World) → Settled left_so to w2 → HomeIsLast (Down g ∷ es) → w2.home ≡ w2.last
-  down_false w2 st all =
+  pub down_behind : (w2 : World) → Settled left_so to w2 → Behind (Down g ∷ es) w2
+  down_behind w2 st =
       let e = exact es a.0 in
       let un = st.undone in
       let top : (needs_quiet g.grant || is_settled (left_so.public.due to) (left_so.told to) (w2.state to)) ≡ true = or_right (needs_quiet g.grant) _ (λ _. st.top) in
-      all w2 (world_given kept g w2, e.after (world_given kept g w2) (old_meant kept g w2 e.sound a.1 a.2 un top), old_informed kept g w2 e.sound a.1 a.2 un top, subst (λ q. Gives q g (world_given kept g w2) w2) e.public (old_gives kept g w2 e.sound a.1 a.2 un top))
+      (world_given kept g w2, e.after (world_given kept g w2) (old_meant kept g w2 e.sound a.1 a.2 un top), old_informed kept g w2 e.sound a.1 a.2 un top, subst (λ q. Gives q g (world_given kept g w2) w2) e.public (old_gives kept g w2 e.sound a.1 a.2 un top))
+
+  down_false : (w2 : World) → Settled left_so to w2 → HomeIsLast (Down g ∷ es) → w2.home ≡ w2.last
+  down_false w2 st all = all w2 (down_behind w2 st)
 
   given_surely : needs_quiet g.grant ≡ false → HomeIsLast (Down g ∷ es) → home_is_last (next_home (seen es) g) (Down g) ≡ true
   given_surely q all = both left_so.current _

@@ -8,10 +8,10 @@ use Rattle.chi_observer.specs.declared.flits.Due.{Due}
 use Rattle.chi_observer.specs.declared.flits.Due.TheVariants.{Nothing, Completion, Resending, SureCompletion, WriteData, Acknowledgement}
 use Rattle.chi_observer.specs.declared.flits.Act.{Act}
 use Rattle.chi_observer.specs.declared.flits.Act.TheVariants.{Request, Resend, SnpResp, CompAck, CopyBackWrData, NonCopyBackWrData}
-use Rattle.chi_observer.specs.declared.flits.Answer.TheVariants.{SnpRespUC}
+use Rattle.chi_observer.specs.declared.flits.Answer.TheVariants.{SnpRespI, SnpRespUC}
 use Rattle.chi_observer.specs.Copies.{Copy, Held, holds_data, is_unique, is_dirty, is_clean, same, compatible}
 use Rattle.chi_observer.specs.Copies.Copy.{Invalid, UniqueDirty, SharedDirty, Writing}
-use Rattle.chi_observer.specs.Rules.{is_free, is_resending, acts, has_data, writes, tells_words, due_after}
+use Rattle.chi_observer.specs.Rules.{is_free, is_resending, acts, throws, loses, has_data, writes, tells_words, due_after}
 use Rattle.chi_observer.specs.Tables.{Known, strongest, most, may, may_drift, reach, fresh, goes_with, told_behind, told_after, fits_told, tells_dirty, renews}
 use Rattle.chi_observer.proofs.Finite.{no, left, right, both, implies, follow}
 use Rattle.chi_observer.proofs.Spots.{acted_can, fits_can, Tried, all_plain, all_paired, spots, each_spot, sent_spots, each_sent, told_spots, each_told_spot, known_spots, each_known_spot, all_due_copies, each_due_copy, all_pairs, each_pair, all_told_pairs, each_told_pair, all_copy_pairs, each_copy_pair}
@@ -66,34 +66,40 @@ on_some (Some s) f = f s
 some_of : (o : Option Held) (s' : Held) (f : Held → Bool) → on_some o f ≡ true → o ≡ Some s' → f s' ≡ true
 some_of o s' f h e = subst (λ (x : Option Held). on_some x f ≡ true) e h
 
-sent_table : Act → Due → Held → Bool
-sent_table a d s = on_some (acts a d s) (λ s'. implies (has_data a) (holds_data s.copy) && implies (writes a) (same s.copy Writing))
+sent_table : Act → Bool → Due → Held → Bool
+sent_table a x d s = on_some (acts a x d s) (λ s'. implies (has_data a) (holds_data s.copy) && implies (writes a) (same s.copy Writing))
 
-sent_holds_plain : (d : Due) → all_plain (λ a. sent_spots sent_table a d) ≡ true
+sent_holds_plain : (x : Bool) (d : Due) → all_plain (λ a y. sent_spots sent_table a y d) x ≡ true
 unfolding sent_table
-sent_holds_plain Nothing = refl
-sent_holds_plain (Completion k) = refl
-sent_holds_plain (Resending k) = refl
-sent_holds_plain (SureCompletion k) = refl
-sent_holds_plain (WriteData k) = refl
-sent_holds_plain Acknowledgement = refl
+sent_holds_plain x Nothing = refl
+sent_holds_plain x (Completion k) = refl
+sent_holds_plain x (Resending k) = refl
+sent_holds_plain x (SureCompletion k) = refl
+sent_holds_plain x (WriteData k) = refl
+sent_holds_plain x Acknowledgement = refl
 
-sent_holds_paired : all_paired (sent_spots sent_table) ≡ true
+sent_holds_paired : (x : Bool) → all_paired (λ a d. sent_spots sent_table a x d) ≡ true
 unfolding sent_table
-sent_holds_paired = refl
+sent_holds_paired x = refl
 
 sent_holds : Tried (sent_spots sent_table)
 sent_holds = record { plain = sent_holds_plain; paired = sent_holds_paired }
 
-sent_well : (a : Act) (d : Due) (s s' : Held) → acts a d s ≡ Some s' → (implies (has_data a) (holds_data s.copy) && implies (writes a) (same s.copy Writing)) ≡ true
+sent_well : (a : Act) (x : Bool) (d : Due) (s s' : Held) → acts a x d s ≡ Some s' → (implies (has_data a) (holds_data s.copy) && implies (writes a) (same s.copy Writing)) ≡ true
 unfolding sent_table
-sent_well a d s s' e = some_of (acts a d s) s' (λ s'. implies (has_data a) (holds_data s.copy) && implies (writes a) (same s.copy Writing)) (each_sent sent_table sent_holds a d (acted_can a d s s' e) s) e
+sent_well a x d s s' e = some_of (acts a x d s) s' (λ s'. implies (has_data a) (holds_data s.copy) && implies (writes a) (same s.copy Writing)) (each_sent sent_table sent_holds a x d (acted_can a x d s s' e) s) e
 
-pub sent_data : (a : Act) (d : Due) (s s' : Held) → acts a d s ≡ Some s' → has_data a ≡ true → holds_data s.copy ≡ true
-sent_data a d s s' e = follow (has_data a) _ (left _ (implies (writes a) (same s.copy Writing)) (sent_well a d s s' e))
+pub sent_data : (a : Act) (x : Bool) (d : Due) (s s' : Held) → acts a x d s ≡ Some s' → has_data a ≡ true → holds_data s.copy ≡ true
+sent_data a x d s s' e = follow (has_data a) _ (left _ (implies (writes a) (same s.copy Writing)) (sent_well a x d s s' e))
 
-pub sent_whole : (a : Act) (d : Due) (s s' : Held) → acts a d s ≡ Some s' → writes a ≡ true → same s.copy Writing ≡ true
-sent_whole a d s s' e = follow (writes a) _ (right (implies (has_data a) (holds_data s.copy)) _ (sent_well a d s s' e))
+pub sent_whole : (a : Act) (x : Bool) (d : Due) (s s' : Held) → acts a x d s ≡ Some s' → writes a ≡ true → same s.copy Writing ≡ true
+sent_whole a x d s s' e = follow (writes a) _ (right (implies (has_data a) (holds_data s.copy)) _ (sent_well a x d s s' e))
+
+-- a copy that is thrown away is shown to nobody
+pub throws_silent : (a : Act) (x : Bool) → throws a x ≡ true → tells_words a ≡ false
+throws_silent (SnpResp SnpRespI) x h = refl
+throws_silent (SnpResp other) x h = no (right x _ h)
+throws_silent other x h = no h
 
 -- data of its own are no data of a copy
 pub no_data : (a : Act) → writes a ≡ true → has_data a ≡ false
@@ -105,34 +111,35 @@ no_data (CopyBackWrData s) h = no h
 no_data NonCopyBackWrData h = refl
 
 -- what a flit that is sent leaves; b: its data aren't the value that is known
-abbrev pub taken_well : Act → Due → Known → Held → Bool → Held → Bool
-taken_well a d t s b s' = fits_told a d t
+abbrev pub taken_well : Act → Bool → Due → Known → Held → Bool → Held → Bool
+taken_well a x d t s b s' = fits_told a x d t
     && ((reach (due_after a d) (told_after a d t b) s' && may (told_behind a d t.told) s'.copy)
-    && (implies (not (renews a d t)) (not (fresh d t s))
-    && implies (holds_data s'.copy) (holds_data s.copy)))
+    && (implies (not (renews a x d t)) (not (fresh d t s))
+    && (implies (holds_data s'.copy) (holds_data s.copy)
+    && implies (loses a x d s.copy) (renews a x d t && not (holds_data s'.copy)))))
 
-forward_table : Act → Due → Known → Held → Bool → Bool
-forward_table a d t s b = implies (reach d t s && implies b (has_data a && fresh d t s)) (on_some (acts a d s) (taken_well a d t s b))
+forward_table : Act → Bool → Due → Known → Held → Bool → Bool
+forward_table a x d t s b = implies (reach d t s && implies b (has_data a && fresh d t s)) (on_some (acts a x d s) (taken_well a x d t s b))
 
-forward_holds_plain : (d : Due) → all_plain (λ a. spots forward_table a d) ≡ true
+forward_holds_plain : (x : Bool) (d : Due) → all_plain (λ a y. spots forward_table a y d) x ≡ true
 unfolding forward_table
-forward_holds_plain Nothing = refl
-forward_holds_plain (Completion k) = refl
-forward_holds_plain (Resending k) = refl
-forward_holds_plain (SureCompletion k) = refl
-forward_holds_plain (WriteData k) = refl
-forward_holds_plain Acknowledgement = refl
+forward_holds_plain x Nothing = refl
+forward_holds_plain x (Completion k) = refl
+forward_holds_plain x (Resending k) = refl
+forward_holds_plain x (SureCompletion k) = refl
+forward_holds_plain x (WriteData k) = refl
+forward_holds_plain x Acknowledgement = refl
 
-forward_holds_paired : all_paired (spots forward_table) ≡ true
+forward_holds_paired : (x : Bool) → all_paired (λ a d. spots forward_table a x d) ≡ true
 unfolding forward_table
-forward_holds_paired = refl
+forward_holds_paired x = refl
 
 forward_holds : Tried (spots forward_table)
 forward_holds = record { plain = forward_holds_plain; paired = forward_holds_paired }
 
-pub forward : (a : Act) (d : Due) (t : Known) (s s' : Held) (b : Bool) → reach d t s ≡ true → implies b (has_data a && fresh d t s) ≡ true → acts a d s ≡ Some s' → taken_well a d t s b s' ≡ true
+pub forward : (a : Act) (x : Bool) (d : Due) (t : Known) (s s' : Held) (b : Bool) → reach d t s ≡ true → implies b (has_data a && fresh d t s) ≡ true → acts a x d s ≡ Some s' → taken_well a x d t s b s' ≡ true
 unfolding forward_table
-forward a d t s s' b r h e = some_of (acts a d s) s' (taken_well a d t s b) (follow (reach d t s && implies b (has_data a && fresh d t s)) _ (each_spot forward_table forward_holds a d (acted_can a d s s' e) t s b) (both _ _ r h)) e
+forward a x d t s s' b r h e = some_of (acts a x d s) s' (taken_well a x d t s b) (follow (reach d t s && implies b (has_data a && fresh d t s)) _ (each_spot forward_table forward_holds a x d (acted_can a x d s s' e) t s b) (both _ _ r h)) e
 
 -- the copy before, where it is told t and the flit leaves s': the strongest, a dirty one where the flit says so
 abbrev pub stored_before : Told → Copy
@@ -152,12 +159,14 @@ abbrev pub is_some_of : Option Held → Held → Bool
 is_some_of None s' = false
 is_some_of (Some s) s' = same_held s s'
 
-abbrev pub led_well : Act → Due → Known → Held → Held → Bool → Bool
-led_well a d t s s' b = reach d t s
-    && (is_some_of (acts a d s) s'
-    && (implies (b || (renews a d t && not (has_data a))) (fresh d t s)
-    && (implies (has_data a) (holds_data s.copy)
-    && implies (writes a) (same s.copy Writing && not (holds_data s'.copy)))))
+abbrev pub led_well : Act → Bool → Due → Known → Held → Held → Bool → Bool
+led_well a x d t s s' b = reach d t s
+    && (is_some_of (acts a x d s) s'
+    && (implies (b || (renews a x d t && not (has_data a || throws a x))) (fresh d t s)
+    && ((implies (has_data a) (holds_data s.copy)
+    && implies (writes a) (same s.copy Writing && not (holds_data s'.copy)))
+    && (implies (renews a x d t && throws a x) (loses a x d s.copy)
+    && implies (loses a x d s.copy) (not (holds_data s'.copy))))))
 
 -- right behind the last flit, before hidden steps
 abbrev pub is_settled : Due → Known → Held → Bool
@@ -165,31 +174,31 @@ is_settled Nothing t s = may t.told s.copy
 is_settled (Resending kind) t s = may t.told s.copy && same_truth s.cancelled t.cancelled
 is_settled other t s = true
 
-abbrev pub led_to : Act → Due → Known → Held → Bool → Bool
-led_to a d t s' b = fits_told a d t && (reach (due_after a d) (told_after a d t b) s' && (is_settled (due_after a d) (told_after a d t b) s' && implies b (has_data a && renews a d t)))
+abbrev pub led_to : Act → Bool → Due → Known → Held → Bool → Bool
+led_to a x d t s' b = fits_told a x d t && (reach (due_after a d) (told_after a d t b) s' && (is_settled (due_after a d) (told_after a d t b) s' && implies b (has_data a && renews a x d t)))
 
-backward_table : Act → Due → Known → Held → Bool → Bool
-backward_table a d t s' b = implies (led_to a d t s' b) (led_well a d t (copy_before a d t s') s' b)
+backward_table : Act → Bool → Due → Known → Held → Bool → Bool
+backward_table a x d t s' b = implies (led_to a x d t s' b) (led_well a x d t (copy_before a d t s') s' b)
 
-backward_holds_plain : (d : Due) → all_plain (λ a. spots backward_table a d) ≡ true
+backward_holds_plain : (x : Bool) (d : Due) → all_plain (λ a y. spots backward_table a y d) x ≡ true
 unfolding backward_table
-backward_holds_plain Nothing = refl
-backward_holds_plain (Completion k) = refl
-backward_holds_plain (Resending k) = refl
-backward_holds_plain (SureCompletion k) = refl
-backward_holds_plain (WriteData k) = refl
-backward_holds_plain Acknowledgement = refl
+backward_holds_plain x Nothing = refl
+backward_holds_plain x (Completion k) = refl
+backward_holds_plain x (Resending k) = refl
+backward_holds_plain x (SureCompletion k) = refl
+backward_holds_plain x (WriteData k) = refl
+backward_holds_plain x Acknowledgement = refl
 
-backward_holds_paired : all_paired (spots backward_table) ≡ true
+backward_holds_paired : (x : Bool) → all_paired (λ a d. spots backward_table a x d) ≡ true
 unfolding backward_table
-backward_holds_paired = refl
+backward_holds_paired x = refl
 
 backward_holds : Tried (spots backward_table)
 backward_holds = record { plain = backward_holds_plain; paired = backward_holds_paired }
 
-pub backward : (a : Act) (d : Due) (t : Known) (s' : Held) (b : Bool) → led_to a d t s' b ≡ true → led_well a d t (copy_before a d t s') s' b ≡ true
+pub backward : (a : Act) (x : Bool) (d : Due) (t : Known) (s' : Held) (b : Bool) → led_to a x d t s' b ≡ true → led_well a x d t (copy_before a d t s') s' b ≡ true
 unfolding backward_table
-backward a d t s' b h = follow (led_to a d t s' b) _ (each_spot backward_table backward_holds a d (fits_can a d t (left _ _ h)) t s' b) h
+backward a x d t s' b h = follow (led_to a x d t s' b) _ (each_spot backward_table backward_holds a x d (fits_can a x d t (left _ _ h)) t s' b) h
 
 pub some_same : (o : Option Held) (s : Held) → is_some_of o s ≡ true → o ≡ Some s
 some_same None s h = no h
@@ -239,28 +248,28 @@ or_there true b h = refl
 or_there false b h = h
 
 -- what is told then goes with what went with what was told
-told_table : Act → Due → Known → Told → Bool
-told_table a d t u = implies (fits_told a d t) (implies (compatible (most t) (strongest u)) (compatible (strongest (told_behind a d t.told)) (strongest u)))
+told_table : Act → Bool → Due → Known → Told → Bool
+told_table a x d t u = implies (fits_told a x d t) (implies (compatible (most t) (strongest u)) (compatible (strongest (told_behind a d t.told)) (strongest u)))
 
-told_holds_plain : (d : Due) → all_plain (λ a. told_spots told_table a d) ≡ true
+told_holds_plain : (x : Bool) (d : Due) → all_plain (λ a y. told_spots told_table a y d) x ≡ true
 unfolding told_table
-told_holds_plain Nothing = refl
-told_holds_plain (Completion k) = refl
-told_holds_plain (Resending k) = refl
-told_holds_plain (SureCompletion k) = refl
-told_holds_plain (WriteData k) = refl
-told_holds_plain Acknowledgement = refl
+told_holds_plain x Nothing = refl
+told_holds_plain x (Completion k) = refl
+told_holds_plain x (Resending k) = refl
+told_holds_plain x (SureCompletion k) = refl
+told_holds_plain x (WriteData k) = refl
+told_holds_plain x Acknowledgement = refl
 
-told_holds_paired : all_paired (told_spots told_table) ≡ true
+told_holds_paired : (x : Bool) → all_paired (λ a d. told_spots told_table a x d) ≡ true
 unfolding told_table
-told_holds_paired = refl
+told_holds_paired x = refl
 
 told_holds : Tried (told_spots told_table)
 told_holds = record { plain = told_holds_plain; paired = told_holds_paired }
 
-pub told_goes : (a : Act) (d : Due) (t u : Known) (b : Bool) → fits_told a d t ≡ true → goes_with t u ≡ true → goes_with (told_after a d t b) u ≡ true
+pub told_goes : (a : Act) (x : Bool) (d : Due) (t u : Known) (b : Bool) → fits_told a x d t ≡ true → goes_with t u ≡ true → goes_with (told_after a d t b) u ≡ true
 unfolding told_table
-told_goes a d t u b f c = follow (goes_with t u) _ (follow (fits_told a d t) _ (each_told_spot told_table told_holds a d (fits_can a d t f) t u.told) f) c
+told_goes a x d t u b f c = follow (goes_with t u) _ (follow (fits_told a x d t) _ (each_told_spot told_table told_holds a x d (fits_can a x d t f) t u.told) f) c
 
 -- dirty, for sure
 dirty_table : Due → Known → Held → Bool
@@ -274,28 +283,28 @@ pub surely_dirty : (d : Due) (t : Known) (s : Held) → same (most t) UniqueDirt
 unfolding dirty_table
 surely_dirty d t s h r = follow _ _ (each_due_copy dirty_table dirty_holds d t s) (both _ _ h r)
 
-stays_table : Act → Due → Known → Bool
-stays_table a d t = implies (fits_told a d t && (not (tells_words a) && (same (most t) UniqueDirty || renews a d t))) (same (strongest (told_behind a d t.told)) UniqueDirty)
+stays_table : Act → Bool → Due → Known → Bool
+stays_table a x d t = implies (fits_told a x d t && (not (tells_words a || throws a x) && (same (most t) UniqueDirty || renews a x d t))) (same (strongest (told_behind a d t.told)) UniqueDirty)
 
-stays_holds_plain : (d : Due) → all_plain (λ a. known_spots stays_table a d) ≡ true
+stays_holds_plain : (x : Bool) (d : Due) → all_plain (λ a y. known_spots stays_table a y d) x ≡ true
 unfolding stays_table
-stays_holds_plain Nothing = refl
-stays_holds_plain (Completion k) = refl
-stays_holds_plain (Resending k) = refl
-stays_holds_plain (SureCompletion k) = refl
-stays_holds_plain (WriteData k) = refl
-stays_holds_plain Acknowledgement = refl
+stays_holds_plain x Nothing = refl
+stays_holds_plain x (Completion k) = refl
+stays_holds_plain x (Resending k) = refl
+stays_holds_plain x (SureCompletion k) = refl
+stays_holds_plain x (WriteData k) = refl
+stays_holds_plain x Acknowledgement = refl
 
-stays_holds_paired : all_paired (known_spots stays_table) ≡ true
+stays_holds_paired : (x : Bool) → all_paired (λ a d. known_spots stays_table a x d) ≡ true
 unfolding stays_table
-stays_holds_paired = refl
+stays_holds_paired x = refl
 
 stays_holds : Tried (known_spots stays_table)
 stays_holds = record { plain = stays_holds_plain; paired = stays_holds_paired }
 
-pub stays_dirty : (a : Act) (d : Due) (t : Known) (b : Bool) → (fits_told a d t && (not (tells_words a) && (same (most t) UniqueDirty || renews a d t))) ≡ true → same (most (told_after a d t b)) UniqueDirty ≡ true
+pub stays_dirty : (a : Act) (x : Bool) (d : Due) (t : Known) (b : Bool) → (fits_told a x d t && (not (tells_words a || throws a x) && (same (most t) UniqueDirty || renews a x d t))) ≡ true → same (most (told_after a d t b)) UniqueDirty ≡ true
 unfolding stays_table
-stays_dirty a d t b h = follow _ _ (each_known_spot stays_table stays_holds a d (fits_can a d t (left _ _ h)) t) h
+stays_dirty a x d t b h = follow _ _ (each_known_spot stays_table stays_holds a x d (fits_can a x d t (left _ _ h)) t) h
 
 clean_table : Due → Known → Held → Bool
 clean_table d t s = implies (not (is_dirty s.copy)) (not (fresh d t s))

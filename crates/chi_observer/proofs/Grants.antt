@@ -1,5 +1,5 @@
 -- The tables of the home's flits fit the others.
-use Rattle.std.proofs.Common.{◌≡◌, refl, sym, subst}
+use Rattle.std.proofs.Common.{◌≡◌, refl, sym, ap, subst}
 use Rattle.std.specs.Prelude.{Bool, true, false, ◌&&◌, ◌||◌, not, Option, if◌then◌else◌}
 use Rattle.chi_flit.specs.declared.state.State.TheVariants as states
 use Rattle.chi_observer.specs.declared.kinds.Snoop.{Snoop}
@@ -10,9 +10,9 @@ use Rattle.chi_observer.specs.declared.flits.Grant.{Grant}
 use Rattle.chi_observer.specs.declared.flits.Grant.TheVariants.{RetryAck, Snp, CompData, CompUC, CompSC, CompI, CompDBIDResp}
 use Rattle.chi_observer.specs.Copies.{Copy, Held, holds_data, is_unique, same, compatible}
 use Rattle.chi_observer.specs.Copies.Copy.{Invalid, SharedClean, UniqueClean, UniqueEmpty, UniqueDirty, SharedDirty}
-use Rattle.chi_observer.specs.Rules.{is_due, needs_quiet, makes, is_upgraded, is_written_whole, due_granted, upgraded, copy_granted, granted, gives_copy, gives_data, fills, shows}
+use Rattle.chi_observer.specs.Rules.{is_due, needs_quiet, needs_alone, makes, settles, is_upgraded, is_written_whole, due_granted, upgraded, copy_granted, granted, gives_copy, gives_data, fills, shows}
 use Rattle.chi_observer.specs.Tables.{Known, strongest, most, may, reach, fresh, goes_with, told_granted, told_upgraded, fills_told, shows_told}
-use Rattle.chi_observer.proofs.Finite.{no, left, right, implies, follow}
+use Rattle.chi_observer.proofs.Finite.{no, left, right, implies, follow, all_grants, each_grant, all_dues, each_due}
 use Rattle.chi_observer.proofs.Spots.{all_gifts, held_gifts, each_gift, told_gifts, each_told_gift, all_told_pairs, each_told_pair}
 use Rattle.chi_observer.proofs.Facts.{turned, same_truth, same_truth_is, same_is, same_held, of_form, is_settled}
 
@@ -100,6 +100,7 @@ form_before (CompData states.I) d t s' = s'
 form_before (CompData form) d t s' = strongest t
 form_before CompUC d t s' = if makes CompUC d then strongest t else (if is_upgraded d then upgraded_from t s' else s')
 form_before CompDBIDResp d t s' = if is_written_whole d then strongest t else s'
+form_before CompI d t s' = if settles CompI d then strongest t else s'
 form_before other d t s' = s'
 
 abbrev pub granted_before : Grant → Due → Known → Held → Held
@@ -136,19 +137,19 @@ lone t u h c = turned _ (follow _ _ (each_told_pair lone_table lone_holds t.told
     join false b h e = e
 
 keeps_table : Grant → Due → Option Snoop → Known → Bool
-keeps_table g d q t = implies (same (most t) UniqueDirty) (same (most (told_granted g d t)) UniqueDirty)
+keeps_table g d q t = implies (same (most t) UniqueDirty && not (settles g d)) (same (most (told_granted g d t)) UniqueDirty)
 
 keeps_holds : all_gifts (told_gifts keeps_table) ≡ true
 unfolding keeps_table
 keeps_holds = refl
 
-pub keeps_dirty : (g : Grant) (d : Due) (q : Option Snoop) (t : Known) → is_due g d q ≡ true → same (most t) UniqueDirty ≡ true → same (most (told_granted g d t)) UniqueDirty ≡ true
+pub keeps_dirty : (g : Grant) (d : Due) (q : Option Snoop) (t : Known) → is_due g d q ≡ true → (same (most t) UniqueDirty && not (settles g d)) ≡ true → same (most (told_granted g d t)) UniqueDirty ≡ true
 unfolding keeps_table
 keeps_dirty g d q t h = follow _ _ (each_told_gift keeps_table keeps_holds g d q h t)
 
--- data leave a copy
+-- data leave a copy with data
 filled_table : Grant → Due → Option Snoop → Known → Bool
-filled_table g d q t = implies (fills_told g t) (not (same (most (told_granted g d t)) Invalid))
+filled_table g d q t = implies (fills_told g t) (not (same (most (told_granted g d t)) Invalid) && holds_data (most (told_granted g d t)))
 
 filled_holds : all_gifts (told_gifts filled_table) ≡ true
 unfolding filled_table
@@ -156,7 +157,48 @@ filled_holds = refl
 
 pub filled : (g : Grant) (d : Due) (q : Option Snoop) (t : Known) → is_due g d q ≡ true → fills_told g t ≡ true → same (most (told_granted g d t)) Invalid ≡ false
 unfolding filled_table
-filled g d q t c h = turned _ (follow _ _ (each_told_gift filled_table filled_holds g d q c t) h)
+filled g d q t c h = turned _ (left _ (holds_data (most (told_granted g d t))) (follow _ _ (each_told_gift filled_table filled_holds g d q c t) h))
+
+pub filled_data : (g : Grant) (d : Due) (q : Option Snoop) (t : Known) → is_due g d q ≡ true → fills_told g t ≡ true → holds_data (most (told_granted g d t)) ≡ true
+unfolding filled_table
+filled_data g d q t c h = right (not (same (most (told_granted g d t)) Invalid)) _ (follow _ _ (each_told_gift filled_table filled_holds g d q c t) h)
+
+-- they make and settle nothing
+pub data_plain : (g : Grant) (d : Due) (b : Bool) → (gives_copy g && b) ≡ true → (makes g d || settles g d) ≡ false
+data_plain RetryAck d b h = no h
+data_plain (Snp x) d b h = no h
+data_plain (CompData x) d b h = refl
+data_plain CompUC d b h = no h
+data_plain CompSC d b h = no h
+data_plain CompI d b h = no h
+data_plain CompDBIDResp d b h = no h
+
+-- where the home's words are settled its agent has no copy, and no other one is left
+pub settled_copy : (g : Grant) (d : Due) (s : Copy) → settles g d ≡ true → copy_granted g d s ≡ Invalid
+settled_copy RetryAck d s h = no h
+settled_copy (Snp x) d s h = no h
+settled_copy (CompData x) d s h = no h
+settled_copy CompUC d s h = no h
+settled_copy CompSC d s h = no h
+settled_copy CompI d s h = ap (λ b. if b then Invalid else s) h
+settled_copy CompDBIDResp d s h = no h
+
+alone_table : Grant → Due → Bool
+alone_table g d = implies (settles g d) (needs_alone g d && not (makes g d))
+
+alone_holds : all_grants (λ g. all_dues (λ d. alone_table g d)) ≡ true
+unfolding alone_table
+alone_holds = refl
+
+settled_well : (g : Grant) (d : Due) → settles g d ≡ true → (needs_alone g d && not (makes g d)) ≡ true
+unfolding alone_table
+settled_well g d = follow _ _ (each_due (alone_table g) (each_grant (λ g. all_dues (λ d. alone_table g d)) alone_holds g) d)
+
+pub settled_alone : (g : Grant) (d : Due) → settles g d ≡ true → needs_alone g d ≡ true
+settled_alone g d h = left _ (not (makes g d)) (settled_well g d h)
+
+pub settled_unmade : (g : Grant) (d : Due) → settles g d ≡ true → makes g d ≡ false
+settled_unmade g d h = turned _ (right (needs_alone g d) _ (settled_well g d h))
 
 -- the strongest copy becomes the strongest
 most_table : Grant → Due → Option Snoop → Known → Bool

@@ -27,8 +27,8 @@ if_needed true b h = h refl
 if_needed false b h = refl
 
 -- the moment that a flit of the home needs
-has_needed : (es : List Flit) (g : HomeFlit) → Accepted es → IsExact es → has_moment (seen es) (shown_by es) g ≡ true → HasNeeded es g
-has_needed es g a e h c = moment_shown es a g.agent.0
+has_needed : (es : List Flit) (g : HomeFlit) → Accepted es → g.agent.0 < 32 → IsExact es → has_moment (seen es) (shown_by es) g ≡ true → HasNeeded es g
+has_needed es g a low e h c = moment_shown es a g.agent.0 low
     (needed_by (needs_moment g.grant ((seen es).public.due g.agent.0)) (shown_by es g.agent.0) h (ap (λ (p : Public). needs_moment g.grant (p.due g.agent.0)) e.public ∙ c))
 
 has_shown : (es : List Flit) (g : HomeFlit) → Accepted es → g.agent.0 < 32 → IsExact es → HasNeeded es g → has_moment (seen es) (shown_by es) g ≡ true
@@ -69,5 +69,5 @@ legal (Down g ∷ es) a =
       (i.world, e.after i.world i.meant, i.informed),
       λ w h i. subst (λ p. IsSafe p g w) e.public (home_safe (seen es) g w e.sound a.1 a.2 (e.meant w h) i),
       a.3,
-      has_needed es g a.0 e a.4,
+      has_needed es g a.0 a.1 e a.4,
     )

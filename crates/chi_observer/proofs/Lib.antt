@@ -17,5 +17,6 @@ mod Tops
 mod Waits
 mod Current
 mod Since
+mod Values
 mod Legal
 mod Lines

@@ -11,7 +11,7 @@ use Rattle.chi_observer.specs.declared.flits.HomeFlit.{HomeFlit}
 use Rattle.chi_observer.specs.declared.flits.Flit.{Flit}
 use Rattle.chi_observer.specs.declared.observer.AgentSeen.{AgentSeen}
 use Rattle.chi_observer.specs.declared.observer.Observer.{Observer}
-use Rattle.chi_observer.specs.Rules.{awaits_moment, makes, tells_words, passes_duty, needs_duty}
+use Rattle.chi_observer.specs.Rules.{awaits_moment, makes, settles, lets_go, throws, tells_words, passes_duty, needs_duty}
 use Rattle.chi_observer.specs.Moments.{is_issue, shown_after, waits_after}
 use Rattle.chi_observer.specs.Tables.{Known, told_after, renews, shows_told}
 use Rattle.chi_observer.specs.Worlds.{put}
@@ -27,56 +27,60 @@ mapped f xs n x low = fun_ext (split (λ m. f (agent_of (slice_set xs n x) m) �
     (ap f (get_or-set_at xs n n x nobody refl low) ∙ sym (here n (f x) (λ (k : ℕ). f (agent_of xs k))))
     (λ m h. ap f (get_or-set_other xs n m x nobody h) ∙ sym (there n (f x) (λ (k : ℕ). f (agent_of xs k)) m h)))
 
-abbrev made : (ℕ → Due) → (ℕ → Option Snoop) → Bool → (ℕ → Known) → Option (List ℕ) → Bool → Observed
-made e q d t v c = record { public = record { due = e; snooped = q; duty = d }; told = t; home = v; current = c }
+abbrev made : (ℕ → Due) → (ℕ → Option Snoop) → Bool → Bool → (ℕ → Known) → Option (List ℕ) → Bool → Observed
+made e q d h t v c = record { public = record { due = e; snooped = q; duty = d; thrown = h }; told = t; home = v; current = c }
 
-made_same : (e e' : ℕ → Due) (q q' : ℕ → Option Snoop) (d d' : Bool) (t t' : ℕ → Known) (v v' : Option (List ℕ)) (c c' : Bool) → e ≡ e' → q ≡ q' → d ≡ d' → t ≡ t' → v ≡ v' → c ≡ c' → made e q d t v c ≡ made e' q' d' t' v' c'
-made_same e e' q q' d d' t t' v v' c c' he hq hd ht hv hc = λ i. made (he i) (hq i) (hd i) (ht i) (hv i) (hc i)
+made_same : (e e' : ℕ → Due) (q q' : ℕ → Option Snoop) (d d' h h' : Bool) (t t' : ℕ → Known) (v v' : Option (List ℕ)) (c c' : Bool) → e ≡ e' → q ≡ q' → d ≡ d' → h ≡ h' → t ≡ t' → v ≡ v' → c ≡ c' → made e q d h t v c ≡ made e' q' d' h' t' v' c'
+made_same e e' q q' d d' h h' t t' v v' c c' he hq hd hh ht hv hc = λ i. made (he i) (hq i) (hd i) (hh i) (ht i) (hv i) (hc i)
 
 -- what is told doesn't depend on the moments
-abbrev pub whole : List AgentSeen → Option (List ℕ) → Bool → Bool → Observer
-whole agents home current duty = record { agents = agents; home = home; current = current; duty = duty; waits = false; shown = [] }
+abbrev pub whole : List AgentSeen → Option (List ℕ) → Bool → Bool → Bool → Observer
+whole agents home current duty thrown = record { agents = agents; home = home; current = current; duty = duty; thrown = thrown; waits = false; shown = [] }
 
-module _ (agents : List AgentSeen) (home : Option (List ℕ)) (current duty : Bool) (x : AgentSeen) (home' : Option (List ℕ)) (current' duty' : Bool) where
-  pub sent_after : (f : CacheFlit) (b : Bool) → f.agent.0 < length agents → x ≡ agent_after f.act (agent_of agents f.agent.0) b → b ≡ differs (observed (whole agents home current duty)) f → home' ≡ (if tells_words f.act then Some f.shown else home) → current' ≡ (if tells_words f.act then true else (if renews f.act (agent_of agents f.agent.0).due (known_of (agent_of agents f.agent.0)) then false else current)) → duty' ≡ (duty || passes_duty f.act) → observed (whole (slice_set agents f.agent.0 x) home' current' duty') ≡ next (observed (whole agents home current duty)) f
-  sent_after f b low e hb hv hc hd =
+module _ (agents : List AgentSeen) (home : Option (List ℕ)) (current duty thrown : Bool) (x : AgentSeen) (home' : Option (List ℕ)) (current' duty' thrown' : Bool) where
+  pub sent_after : (f : CacheFlit) (b : Bool) → f.agent.0 < length agents → x ≡ agent_after f.act (agent_of agents f.agent.0) b → b ≡ differs (observed (whole agents home current duty thrown)) f → home' ≡ (if tells_words f.act then Some f.shown else home) → current' ≡ (if tells_words f.act then true else (if renews f.act (lets_go (agent_of agents f.agent.0).snooped) (agent_of agents f.agent.0).due (known_of (agent_of agents f.agent.0)) then false else current)) → duty' ≡ (duty || passes_duty f.act) → thrown' ≡ (if tells_words f.act then false else thrown || throws f.act (lets_go (agent_of agents f.agent.0).snooped)) → observed (whole (slice_set agents f.agent.0 x) home' current' duty' thrown') ≡ next (observed (whole agents home current duty thrown)) f
+  sent_after f b low e hb hv hc hd hh =
       let n = f.agent.0 in
-      made_same _ _ _ _ _ _ _ _ _ _ _ _
+      made_same _ _ _ _ _ _ _ _ _ _ _ _ _ _
       (mapped (λ a. a.due) agents n x low ∙ ap (λ (y : AgentSeen). put n y.due (λ (m : ℕ). (agent_of agents m).due)) e)
       (mapped (λ a. a.snooped) agents n x low ∙ ap (λ (y : AgentSeen). put n y.snooped (λ (m : ℕ). (agent_of agents m).snooped)) e)
       hd
+      hh
       (mapped known_of agents n x low ∙ ap (λ (y : AgentSeen). put n (known_of y) (λ (m : ℕ). known_of (agent_of agents m))) e
       ∙ ap (λ (z : Bool). put n (told_after f.act (agent_of agents n).due (known_of (agent_of agents n)) z) (λ (m : ℕ). known_of (agent_of agents m))) hb)
       hv
       hc
 
-  pub given_after : (g : HomeFlit) → g.agent.0 < length agents → x ≡ agent_granted g.grant (agent_of agents g.agent.0) → home' ≡ (if shows_told g.grant (known_of (agent_of agents g.agent.0)) then Some g.shown else home) → current' ≡ (current && not (makes g.grant (agent_of agents g.agent.0).due)) → duty' ≡ (duty && not (needs_duty g.grant)) → observed (whole (slice_set agents g.agent.0 x) home' current' duty') ≡ next_home (observed (whole agents home current duty)) g
-  given_after g low e hv hc hd =
+  pub given_after : (g : HomeFlit) → g.agent.0 < length agents → x ≡ agent_granted g.grant (agent_of agents g.agent.0) → home' ≡ (if shows_told g.grant (known_of (agent_of agents g.agent.0)) then Some g.shown else home) → current' ≡ (settles g.grant (agent_of agents g.agent.0).due || (current && not (makes g.grant (agent_of agents g.agent.0).due))) → duty' ≡ (duty && not (needs_duty g.grant)) → thrown' ≡ (thrown && not (makes g.grant (agent_of agents g.agent.0).due || settles g.grant (agent_of agents g.agent.0).due)) → observed (whole (slice_set agents g.agent.0 x) home' current' duty' thrown') ≡ next_home (observed (whole agents home current duty thrown)) g
+  given_after g low e hv hc hd hh =
       let n = g.agent.0 in
-      made_same _ _ _ _ _ _ _ _ _ _ _ _
+      made_same _ _ _ _ _ _ _ _ _ _ _ _ _ _
       (mapped (λ a. a.due) agents n x low ∙ ap (λ (y : AgentSeen). put n y.due (λ (m : ℕ). (agent_of agents m).due)) e)
       (mapped (λ a. a.snooped) agents n x low ∙ ap (λ (y : AgentSeen). put n y.snooped (λ (m : ℕ). (agent_of agents m).snooped)) e)
       hd
+      hh
       (mapped known_of agents n x low ∙ ap (λ (y : AgentSeen). put n (known_of y) (λ (m : ℕ). known_of (agent_of agents m))) e)
       hv
       hc
 
-  pub sent_by : (f : CacheFlit) (n : ℕ) (b shows r : Bool) → n ≡ f.agent.0 → n < length agents → x ≡ agent_after f.act (agent_of agents n) b → b ≡ differs (observed (whole agents home current duty)) f → shows ≡ tells_words f.act → r ≡ renews f.act (agent_of agents n).due (known_of (agent_of agents n)) → home' ≡ (if shows then Some f.shown else home) → current' ≡ (if shows then true else (if r then false else current)) → duty' ≡ (duty || passes_duty f.act) → observed (whole (slice_set agents n x) home' current' duty') ≡ next (observed (whole agents home current duty)) f
-  sent_by f n b shows r hn low e hb hs hr hv hc hd =
-      ap (λ (k : ℕ). observed (whole (slice_set agents k x) home' current' duty')) hn
+  pub sent_by : (f : CacheFlit) (n : ℕ) (b shows r goes : Bool) → n ≡ f.agent.0 → n < length agents → x ≡ agent_after f.act (agent_of agents n) b → b ≡ differs (observed (whole agents home current duty thrown)) f → shows ≡ tells_words f.act → goes ≡ lets_go (agent_of agents n).snooped → r ≡ renews f.act goes (agent_of agents n).due (known_of (agent_of agents n)) → home' ≡ (if shows then Some f.shown else home) → current' ≡ (if shows then true else (if r then false else current)) → duty' ≡ (duty || passes_duty f.act) → thrown' ≡ (if tells_words f.act then false else thrown || throws f.act goes) → observed (whole (slice_set agents n x) home' current' duty' thrown') ≡ next (observed (whole agents home current duty thrown)) f
+  sent_by f n b shows r goes hn low e hb hs hg hr hv hc hd hh =
+      ap (λ (k : ℕ). observed (whole (slice_set agents k x) home' current' duty' thrown')) hn
       ∙ sent_after f b (subst (λ (k : ℕ). k < length agents) hn low) (e ∙ ap (λ (k : ℕ). agent_after f.act (agent_of agents k) b) hn) hb
       (hv ∙ ap (λ (z : Bool). if z then Some f.shown else home) hs)
       (hc ∙ ap (λ (z : Bool). if z then true else (if r then false else current)) hs
-      ∙ ap (λ (z : Bool). if tells_words f.act then true else (if z then false else current)) (hr ∙ ap (λ (k : ℕ). renews f.act (agent_of agents k).due (known_of (agent_of agents k))) hn))
+      ∙ ap (λ (z : Bool). if tells_words f.act then true else (if z then false else current)) (hr ∙ ap (λ (z : Bool). renews f.act z (agent_of agents n).due (known_of (agent_of agents n))) hg ∙ ap (λ (k : ℕ). renews f.act (lets_go (agent_of agents k).snooped) (agent_of agents k).due (known_of (agent_of agents k))) hn))
       hd
+      (hh ∙ ap (λ (z : Bool). if tells_words f.act then false else thrown || throws f.act z) hg ∙ ap (λ (k : ℕ). if tells_words f.act then false else thrown || throws f.act (lets_go (agent_of agents k).snooped)) hn)
 
-  pub given_by : (g : HomeFlit) (n : ℕ) (full : Bool) → n ≡ g.agent.0 → n < length agents → x ≡ agent_granted g.grant (agent_of agents n) → full ≡ shows_told g.grant (known_of (agent_of agents n)) → home' ≡ (if full then Some g.shown else home) → current' ≡ (current && not (makes g.grant (agent_of agents n).due)) → duty' ≡ (duty && not (needs_duty g.grant)) → observed (whole (slice_set agents n x) home' current' duty') ≡ next_home (observed (whole agents home current duty)) g
-  given_by g n full hn low e hf hv hc hd =
-      ap (λ (k : ℕ). observed (whole (slice_set agents k x) home' current' duty')) hn
+  pub given_by : (g : HomeFlit) (n : ℕ) (full : Bool) → n ≡ g.agent.0 → n < length agents → x ≡ agent_granted g.grant (agent_of agents n) → full ≡ shows_told g.grant (known_of (agent_of agents n)) → home' ≡ (if full then Some g.shown else home) → current' ≡ (settles g.grant (agent_of agents n).due || (current && not (makes g.grant (agent_of agents n).due))) → duty' ≡ (duty && not (needs_duty g.grant)) → thrown' ≡ (thrown && not (makes g.grant (agent_of agents n).due || settles g.grant (agent_of agents n).due)) → observed (whole (slice_set agents n x) home' current' duty' thrown') ≡ next_home (observed (whole agents home current duty thrown)) g
+  given_by g n full hn low e hf hv hc hd hh =
+      ap (λ (k : ℕ). observed (whole (slice_set agents k x) home' current' duty' thrown')) hn
       ∙ given_after g (subst (λ (k : ℕ). k < length agents) hn low) (e ∙ ap (λ (k : ℕ). agent_granted g.grant (agent_of agents k)) hn)
       (hv ∙ ap (λ (z : Bool). if z then Some g.shown else home) (hf ∙ ap (λ (k : ℕ). shows_told g.grant (known_of (agent_of agents k))) hn))
-      (hc ∙ ap (λ (k : ℕ). current && not (makes g.grant (agent_of agents k).due)) hn)
+      (hc ∙ ap (λ (k : ℕ). settles g.grant (agent_of agents k).due || (current && not (makes g.grant (agent_of agents k).due))) hn)
       hd
+      (hh ∙ ap (λ (k : ℕ). thrown && not (makes g.grant (agent_of agents k).due || settles g.grant (agent_of agents k).due)) hn)
 
 -- at first nothing is told
 agent_new : (k n : ℕ) → agent_of (replicate k nobody) n ≡ nobody
@@ -85,10 +89,11 @@ agent_new zero (suc n) = refl
 agent_new (suc k) zero = refl
 agent_new (suc k) (suc n) = agent_new k n
 
-pub told_nothing : observed (whole (replicate 32 nobody) None true false) ≡ nothing_told
-told_nothing = made_same _ _ _ _ _ _ _ _ _ _ _ _
+pub told_nothing : observed (whole (replicate 32 nobody) None true false false) ≡ nothing_told
+told_nothing = made_same _ _ _ _ _ _ _ _ _ _ _ _ _ _
     (fun_ext (λ n. ap (λ (a : AgentSeen). a.due) (agent_new 32 n)))
     (fun_ext (λ n. ap (λ (a : AgentSeen). a.snooped) (agent_new 32 n)))
+    refl
     refl
     (fun_ext (λ n. ap known_of (agent_new 32 n)))
     refl
@@ -103,12 +108,18 @@ no_moments zero (suc n) = refl
 no_moments (suc k) zero = refl
 no_moments (suc k) (suc n) = no_moments k n
 
-pub watched_nothing : seen_with (observed (whole (replicate 32 nobody) None true false)) false (λ n. shown_of (replicate 32 false) n) ≡ nothing_watched
+pub watched_nothing : seen_with (observed (whole (replicate 32 nobody) None true false false)) false (λ n. shown_of (replicate 32 false) n) ≡ nothing_watched
 watched_nothing = λ i. seen_with (told_nothing i) false (fun_ext (no_moments 32) i)
 
 pub refused : (a b : Bool) → a ≡ false → false ≡ (a && b)
 refused true b h = no (sym h)
 refused false b h = refl
+
+pub apart : (p q r s : Bool) → s ≡ false → false ≡ (p && (q && (r && s)))
+apart true true true s h = sym h
+apart true true false s h = refl
+apart true false r s h = refl
+apart false q r s h = refl
 
 words_stand : (h r c x : Bool) → (h && (not r && (c && not x))) ≡ false → true ≡ (not h || (r || (not c || x)))
 words_stand false r c x e = refl

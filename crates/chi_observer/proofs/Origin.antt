@@ -1,19 +1,20 @@
 -- Each world behind a flit of the home comes from one before.
 use Rattle.std.proofs.Common.{◌≡◌, ◌≢◌, ℕ, ◌<◌, List, refl, sym, ap, subst, ◌∙◌}
-use Rattle.std.specs.Prelude.{Bool, true, false, ◌&&◌, ◌||◌, Some, if◌then◌else◌}
+use Rattle.std.specs.Prelude.{Bool, true, false, ◌&&◌, ◌||◌, not, Some, if◌then◌else◌}
 use Rattle.chi_observer.specs.declared.flits.Due.{Due}
 use Rattle.chi_observer.specs.declared.flits.HomeFlit.{HomeFlit}
-use Rattle.chi_observer.specs.Copies.{Held, holds_data, is_unique}
-use Rattle.chi_observer.specs.Rules.{granted, fills, shows, makes, due_granted, needs_quiet}
-use Rattle.chi_observer.specs.Tables.{Known, reach, fresh, told_granted, shows_told}
+use Rattle.chi_observer.specs.Copies.{Held, holds_data, is_unique, same}
+use Rattle.chi_observer.specs.Copies.Copy.{Invalid, UniqueDirty}
+use Rattle.chi_observer.specs.Rules.{is_free, granted, fills, shows, makes, settles, due_granted, needs_quiet}
+use Rattle.chi_observer.specs.Tables.{Known, most, reach, fresh, told_granted, fills_told, shows_told}
 use Rattle.chi_observer.specs.Worlds.{World, Gives, Informed, home_may, put}
 use Rattle.chi_observer.specs.Observed.{Observed, Sound, Unstored, Meaning, goes, takes_home, next_home}
 use Rattle.chi_observer.specs.Laws.{MeaningComesByHome}
 use Rattle.chi_observer.proofs.Finite.{no, left, right, both}
-use Rattle.chi_observer.proofs.Facts.{same_held, same_held_is, is_settled, or_there, flip, below, beside_unique}
-use Rattle.chi_observer.proofs.Grants.{copy_data, granted_before, got, made_copy}
+use Rattle.chi_observer.proofs.Facts.{same_held, same_held_is, same_is, is_settled, or_here, or_there, and_false, flip, below, beside_unique, none_left}
+use Rattle.chi_observer.proofs.Grants.{copy_data, granted_before, got, made_copy, settled_copy, settled_alone}
 use Rattle.chi_observer.proofs.Words.{fitted, some_value, old_value}
-use Rattle.chi_observer.proofs.Copies.{home_kept, goes_else, fitting, fills_same, shows_same, filled_last}
+use Rattle.chi_observer.proofs.Copies.{home_kept, goes_else, gone_else, fitting, fills_same, shows_same, filled_last}
 use Rattle.chi_observer.proofs.Put.{here, there, split}
 use Rattle.chi_observer.proofs.Rewind.{Undone, rewind}
 
@@ -39,15 +40,25 @@ module _ (o : Observed) (g : HomeFlit) (w2 : World) (sound : Sound o) (low : g.a
   abbrev was : Held
   was = granted_before g.grant d t s2
 
-  -- the value before: what its agent writes at the completion of a MakeUnique is another
+  abbrev anew : Bool
+  anew = makes g.grant d || settles g.grant d
+
+  -- the value before: behind the completion of a MakeUnique or a MakeInvalid it is another
   abbrev value : List ℕ
-  value = if makes g.grant d then w2.home else w2.last
+  value = if anew then w2.home else w2.last
 
   abbrev old : World
   old = record { state = put n was w2.state; words = put n value w2.words; last = value; home = w2.home }
 
-  value_same : makes g.grant d ≡ false → value ≡ w2.last
+  value_same : anew ≡ false → value ≡ w2.last
   value_same e = ap (λ b. if b then w2.home else w2.last) e
+
+  neither : (a b : Bool) → a ≡ false → b ≡ false → (a || b) ≡ false
+  neither a b h e = λ i. h i || e i
+
+  not_left : (a b : Bool) → (a || b) ≡ false → a ≡ false
+  not_left true b h = no (sym h)
+  not_left false b h = refl
 
   allowed : home_may o.public g ≡ true
   allowed = left _ _ takes
@@ -74,10 +85,22 @@ module _ (o : Observed) (g : HomeFlit) (w2 : World) (sound : Sound o) (low : g.a
   Quiet : Type 0
   Quiet = (k : ℕ) → k ≢ n → k < 32 → fresh (o.public.due k) (o.told k) (w2.state k) ≡ false
 
-  now : makes g.grant d ≡ false → Quiet → o.current ≡ true → w2.last ≡ w2.home
+  now : anew ≡ false → Quiet → o.current ≡ true → w2.last ≡ w2.home
   unfolding Quiet
-  now e u c = un.current (both _ _ c (flip _ e)) (λ k h lk. subst (λ x. fresh x (put n t' o.told k) (w2.state k) ≡ false) (sym (there n d' o.public.due k h))
+  now e u c = un.current (or_there (settles g.grant d) _ (both _ _ c (flip _ (not_left _ _ e)))) (λ k h lk. subst (λ x. fresh x (put n t' o.told k) (w2.state k) ≡ false) (sym (there n d' o.public.due k h))
       (subst (λ x. fresh (o.public.due k) x (w2.state k) ≡ false) (sym (there n t' o.told k h)) (u k h lk)))
+
+  -- none else is left
+  none_else : settles g.grant d ≡ true → (k : ℕ) → k ≢ n → k < 32 → same (most (o.told k)) Invalid ≡ true
+  none_else z k h lk = gone_else o g sound low takes (settled_alone g.grant d z) k h lk
+
+  empty_else : settles g.grant d ≡ true → (k : ℕ) → k ≢ n → k < 32 → holds_data (w2.state k).copy ≡ false
+  empty_else z k h lk = ap holds_data (same_is (w2.state k).copy Invalid (none_left (o.public.due k) (o.told k) (w2.state k) (none_else z k h lk) (told_else k h lk)))
+
+  settled_now : settles g.grant d ≡ true → w2.last ≡ w2.home
+  settled_now z = un.current (or_here (settles g.grant d) _ z) (λ k h lk. subst (λ x. fresh x (put n t' o.told k) (w2.state k) ≡ false) (sym (there n d' o.public.due k h))
+      (subst (λ x. fresh (o.public.due k) x (w2.state k) ≡ false) (sym (there n t' o.told k h))
+      (and_false (is_free (o.public.due k) (w2.state k)) _ (ap (λ x. is_unique x && same (w2.state k).copy UniqueDirty) (same_is (most (o.told k)) Invalid (none_else z k h lk))))))
 
   quiet_of : Unstored o old → Quiet
   unfolding Quiet
@@ -87,7 +110,7 @@ module _ (o : Observed) (g : HomeFlit) (w2 : World) (sound : Sound o) (low : g.a
   home_shown f = un.home g.shown (some_value (shows_told g.grant t) g.shown o.home f)
 
   home_was : (v : List ℕ) → o.home ≡ Some v → (b : Bool) → shows_told g.grant t ≡ b → w2.home ≡ v
-  home_was v e true f = home_shown f ∙ sym (fitted (shows_told g.grant t) o.home g.shown v (left _ (goes o g) (right (home_may o.public g) _ takes)) f e)
+  home_was v e true f = home_shown f ∙ sym (fitted (shows_told g.grant t) o.home g.shown v (left _ ((not (fills_told g.grant t) || o.current) && goes o g) (right (home_may o.public g) _ takes)) f e)
   home_was v e false f = un.home v (old_value (shows_told g.grant t) g.shown o.home f ∙ e)
 
   made : makes g.grant d ≡ true → (is_unique s2.copy && holds_data s2.copy) ≡ true
@@ -96,11 +119,12 @@ module _ (o : Observed) (g : HomeFlit) (w2 : World) (sound : Sound o) (low : g.a
   alone : makes g.grant d ≡ true → (k : ℕ) → k ≢ n → k < 32 → holds_data (w2.state k).copy ≡ false
   alone e k h lk = beside_unique s2.copy (w2.state k).copy (left _ _ (made e)) (below d' (o.public.due k) t' (o.told k) s2 (w2.state k) reached (told_else k h lk) (goes_else o g sound low takes k h lk))
 
-  else_words : (k : ℕ) → k ≢ n → k < 32 → holds_data (w2.state k).copy ≡ true → (b : Bool) → makes g.grant d ≡ b → w2.words k ≡ value
-  else_words k h lk v true e = no (sym (alone e k h lk) ∙ v)
-  else_words k h lk v false e = un.words k lk v ∙ sym (value_same e)
+  else_words : (k : ℕ) → k ≢ n → k < 32 → holds_data (w2.state k).copy ≡ true → (b z : Bool) → makes g.grant d ≡ b → settles g.grant d ≡ z → w2.words k ≡ value
+  else_words k h lk v true z e hz = no (sym (alone e k h lk) ∙ v)
+  else_words k h lk v false true e hz = no (sym (empty_else hz k h lk) ∙ v)
+  else_words k h lk v false false e hz = un.words k lk v ∙ sym (value_same (neither _ _ e hz))
 
-  old_current : o.current ≡ true → Quiet → (b : Bool) → makes g.grant d ≡ b → value ≡ w2.home
+  old_current : o.current ≡ true → Quiet → (b : Bool) → anew ≡ b → value ≡ w2.home
   old_current c u true e = ap (λ b. if b then w2.home else w2.last) e
   old_current c u false e = value_same e ∙ now e u c
 
@@ -111,17 +135,25 @@ module _ (o : Observed) (g : HomeFlit) (w2 : World) (sound : Sound o) (low : g.a
         (λ k h lk. subst (λ x. reach (o.public.due k) (o.told k) x ≡ true) (sym (there n was w2.state k h)) (told_else k h lk));
     words = split (λ k. k < 32 → holds_data (old.state k).copy ≡ true → old.words k ≡ value) n
         (λ _ _. here n value w2.words)
-        (λ k h lk v. there n value w2.words k h ∙ else_words k h lk (subst (λ (x : Held). holds_data x.copy ≡ true) (there n was w2.state k h) v) (makes g.grant d) refl);
+        (λ k h lk v. there n value w2.words k h ∙ else_words k h lk (subst (λ (x : Held). holds_data x.copy ≡ true) (there n was w2.state k h) v) (makes g.grant d) (settles g.grant d) refl refl);
     home = λ v e. home_was v e (shows_told g.grant t) refl;
-    current = λ c u. old_current c (quiet_of u) (makes g.grant d) refl;
+    current = λ c u. old_current c (quiet_of u) anew refl;
   }
 
-  last_shown : makes g.grant d ≡ false → fills g.grant was ≡ true → w2.last ≡ g.shown
+  last_shown : anew ≡ false → fills g.grant was ≡ true → w2.last ≡ g.shown
   last_shown e f = sym (value_same e) ∙ filled_last o g old sound low takes old_meant (subst (λ x. fills g.grant x ≡ true) (sym (here n was w2.state)) f) ∙ home_shown (copy_data g.grant _ (fills_same o g low allowed was old_reach ∙ f))
 
-  words_are : makes g.grant d ≡ false → (b : Bool) → fills g.grant was ≡ b → w2.last ≡ (if fills g.grant was then g.shown else put n value w2.words n)
+  words_are : anew ≡ false → (b : Bool) → fills g.grant was ≡ b → w2.last ≡ (if fills g.grant was then g.shown else put n value w2.words n)
   words_are e true f = last_shown e f ∙ sym (ap (λ b. if b then g.shown else put n value w2.words n) f)
   words_are e false f = sym (value_same e) ∙ sym (here n value w2.words) ∙ sym (ap (λ b. if b then g.shown else put n value w2.words n) f)
+
+  here_words : holds_data s2.copy ≡ true → makes g.grant d ≡ false → (z : Bool) → settles g.grant d ≡ z → w2.last ≡ (if fills g.grant was then g.shown else put n value w2.words n)
+  here_words v e true z = no (sym (ap (λ (x : Held). holds_data x.copy) gives ∙ ap holds_data (settled_copy g.grant d was.copy z)) ∙ v)
+  here_words v e false z = words_are (neither _ _ e z) (fills g.grant was) refl
+
+  last_by : makes g.grant d ≡ false → (z : Bool) → settles g.grant d ≡ z → w2.last ≡ (if settles g.grant d then w2.home else value)
+  last_by e true z = settled_now z ∙ sym (ap (λ b. if b then w2.home else value) z)
+  last_by e false z = sym (value_same (neither _ _ e z)) ∙ sym (ap (λ b. if b then w2.home else value) z)
 
   pub old_informed : Informed g old
   old_informed f = home_shown (shows_same o g low allowed was old_reach ∙ subst (λ x. shows g.grant x ≡ true) (here n was w2.state) f)
@@ -129,8 +161,8 @@ module _ (o : Observed) (g : HomeFlit) (w2 : World) (sound : Sound o) (low : g.a
   pub old_gives : Gives o.public g old w2
   old_gives = record {
     state = gives ∙ ap (granted g.grant d) (sym (here n was w2.state));
-    words = λ v e. un.words n low v ∙ subst (λ x. w2.last ≡ (if fills g.grant x then g.shown else put n value w2.words n)) (sym (here n was w2.state)) (words_are e (fills g.grant was) refl);
-    last = λ e. sym (value_same e);
+    words = λ v e. un.words n low v ∙ subst (λ x. w2.last ≡ (if fills g.grant x then g.shown else put n value w2.words n)) (sym (here n was w2.state)) (here_words v e (settles g.grant d) refl);
+    last = λ e. last_by e (settles g.grant d) refl;
     made = λ e. un.words n low (right (is_unique s2.copy) _ (made e));
     home = refl;
     others = record { state = λ k lk h. sym (there n was w2.state k h); words = λ k lk h. sym (there n value w2.words k h) };
@@ -139,7 +171,7 @@ module _ (o : Observed) (g : HomeFlit) (w2 : World) (sound : Sound o) (low : g.a
 -- the world before
 abbrev pub world_given : Observed → HomeFlit → World → World
 world_given o g w2 =
-    let value : List ℕ = if makes g.grant (o.public.due g.agent.0) then w2.home else w2.last in
+    let value : List ℕ = if makes g.grant (o.public.due g.agent.0) || settles g.grant (o.public.due g.agent.0) then w2.home else w2.last in
     record {
       state = put g.agent.0 (granted_before g.grant (o.public.due g.agent.0) (o.told g.agent.0) (w2.state g.agent.0)) w2.state;
       words = put g.agent.0 value w2.words;

@@ -8,7 +8,7 @@ use Rattle.chi_observer.specs.Copies.{Held, holds_data}
 use Rattle.chi_observer.specs.Copies.Copy.{Invalid}
 use Rattle.chi_observer.specs.Rules.{plain}
 use Rattle.chi_observer.specs.Tables.{Known, reach, fresh}
-use Rattle.chi_observer.specs.Worlds.{World, Sends, Gives, Drift, public_after, public_granted}
+use Rattle.chi_observer.specs.Worlds.{World, Coherent, Sends, Gives, Drift, public_after, public_granted}
 use Rattle.chi_observer.specs.Worlds.Drift.{Stay, Step}
 use Rattle.chi_observer.specs.Observed.{Observed, Sound, Meaning, next, next_home}
 use Rattle.chi_observer.specs.Runs.{public_of, seen, AcceptedIsExact, AcceptedIsCoherent}
@@ -41,7 +41,7 @@ start_copy s h = same_held_is s (plain Invalid) (follow (reach Nothing none s) _
 
 pub exact : AcceptedIsExact
 exact [] a = record {
-  sound = record { pairs = λ _ _ _ _ _. refl; owner = λ e. no (sym e) };
+  sound = record { pairs = λ _ _ _ _ _. refl; owner = λ e th. no (sym e) };
   public = refl;
   meant = λ w h. record {
     told = λ n l. subst (λ x. reach Nothing none x ≡ true) (sym (h.0 n l)) refl;
@@ -78,4 +78,4 @@ exact (Down g ∷ es) a =
     }
 
 pub coherent_after : AcceptedIsCoherent
-coherent_after es a w h = let e = exact es a in coherent (seen es) w e.sound (e.meant w h)
+coherent_after es a w h = let e = exact es a in subst (λ p. Coherent p w) e.public (coherent (seen es) w e.sound (e.meant w h))

@@ -1,5 +1,5 @@
 -- The moments that are kept are those that worlds have.
-use Rattle.std.proofs.Common.{◌≡◌, ◌⊎◌, inl, inr, ℕ, ◌<◌, List, [], ◌∷◌, refl, sym, ap, subst, ◌∙◌}
+use Rattle.std.proofs.Common.{◌≡◌, ◌≢◌, ◌⊎◌, inl, inr, ℕ, ◌<◌, List, [], ◌∷◌, refl, sym, ap, subst, ◌∙◌}
 use Rattle.std.specs.Prelude.{Bool, true, false, ◌&&◌, ◌||◌, ◌==◌, not, if◌then◌else◌}
 use Rattle.std.proofs.lemmas.Bool.{eqb-true}
 use Rattle.chi_observer.specs.declared.flits.Due.{Due}
@@ -9,26 +9,25 @@ use Rattle.chi_observer.specs.declared.flits.Flit.{Flit}
 use Rattle.chi_observer.specs.declared.flits.Flit.TheVariants.{Up, Down}
 use Rattle.chi_observer.specs.Copies.{Held, is_unique, is_dirty}
 use Rattle.chi_observer.specs.Copies.Copy.{UniqueDirty}
-use Rattle.chi_observer.specs.Rules.{is_resending, awaits_moment, reads_once, needs_quiet}
-use Rattle.chi_observer.specs.Tables.{Known, most, may, reach, may_be_free, told_granted}
-use Rattle.chi_observer.specs.Worlds.{Public, World, Sends, Gives, put}
-use Rattle.chi_observer.specs.Observed.{Observed, next, next_home}
+use Rattle.chi_observer.specs.Rules.{may_be_free, is_resending, awaits_moment, reads_once, needs_quiet, due_granted, granted}
+use Rattle.chi_observer.specs.Tables.{Known, most, may, reach, fresh, told_granted}
+use Rattle.chi_observer.specs.Worlds.{Public, World, Sends, Gives, all_below, put}
+use Rattle.chi_observer.specs.Observed.{Observed, Unstored, Meaning, next, next_home}
 use Rattle.chi_observer.specs.Moments.{is_issue, tells_of, may_be_dirty, none_dirty, home_is_last, is_moment}
-use Rattle.chi_observer.specs.Runs.{public_of, seen, waits_by, shown_by, NoneDirty, HomeIsLast, IsMoment, HasMoment, Accepted}
+use Rattle.chi_observer.specs.Runs.{public_of, Behind, seen, waits_by, shown_by, NoneDirty, HomeIsLast, IsMoment, HasMoment, Accepted}
 use Rattle.chi_observer.proofs.Finite.{no, left, right, both, implies, follow}
 use Rattle.chi_observer.proofs.Spots.{all_due_copies, each_due_copy}
-use Rattle.chi_observer.proofs.Facts.{turned, flip, or_here, or_there, top_copy, reach_self, is_settled}
-use Rattle.chi_observer.proofs.Words.{or_words}
+use Rattle.chi_observer.proofs.Facts.{turned, flip, unstored_clean, or_here, or_there, top_copy, reach_self, is_settled}
+use Rattle.chi_observer.proofs.Words.{or_words, others_differ, be_true}
 use Rattle.chi_observer.proofs.Put.{here, there, split, differ, unlike, alike}
 use Rattle.chi_observer.proofs.Rewind.{Undone, Settled}
-use Rattle.chi_observer.proofs.Copies.{each_below, below_all, settled_given}
-use Rattle.chi_observer.proofs.Cache.{leads, settled_sent}
+use Rattle.chi_observer.proofs.Copies.{each_below, below_all, unfresh, settled_given}
+use Rattle.chi_observer.proofs.Cache.{leads, last_here, settled_sent}
 use Rattle.chi_observer.proofs.Home.{home_leads}
-use Rattle.chi_observer.proofs.Back.{world_before, before_meant, before_sends}
 use Rattle.chi_observer.proofs.Origin.{world_given, old_meant, old_informed, old_gives}
 use Rattle.chi_observer.proofs.Tops.{top_settled}
 use Rattle.chi_observer.proofs.Waits.{wakes}
-use Rattle.chi_observer.proofs.Current.{up_last, up_surely, down_last, down_surely}
+use Rattle.chi_observer.proofs.Current.{up_calm, up_behind, up_last, up_surely, down_calm, down_home, down_behind, down_last, down_surely, was_home, lost_world, lost_settled}
 use Rattle.chi_observer.proofs.Runs.{exact}
 
 one_of : (a b : Bool) → (a || b) ≡ true → a ≡ false → b ≡ true
@@ -67,6 +66,22 @@ clean_by : (b : Bool) (d : Due) (t : Known) (s : Held) → reach d t s ≡ true 
 unfolding quiet_table told_table
 clean_by true d t s r h n = turned _ (follow (may t.told s.copy && not (is_dirty (most t))) _ (each_due_copy told_table told_holds d t s) (both _ _ (h refl) (not_left (is_dirty (most t)) _ n)))
 clean_by false d t s r h n = turned _ (follow (reach d t s && not (may_be_dirty d t false)) _ (each_due_copy quiet_table quiet_holds d t s) (both _ _ r n))
+
+not_stored : (a b : Bool) → not (a || b) ≡ true → not b ≡ true
+not_stored true b h = no h
+not_stored false b h = h
+
+-- who is told to be dirty is
+surely_table : Due → Known → Held → Bool
+surely_table d t s = implies (is_dirty (most t) && reach d t s) (is_dirty s.copy)
+
+surely_holds : all_due_copies surely_table ≡ true
+unfolding surely_table
+surely_holds = refl
+
+told_dirty : (d : Due) (t : Known) (s : Held) → is_dirty (most t) ≡ true → reach d t s ≡ true → is_dirty s.copy ≡ true
+unfolding surely_table
+told_dirty d t s h r = follow _ _ (each_due_copy surely_table surely_holds d t s) (both _ _ h r)
 
 -- A COPY THAT MAY BE DIRTY
 abbrev pub dirty_top : Due → Known → Held
@@ -144,28 +159,52 @@ module _ (es : List Flit) (f : CacheFlit) (a : Accepted (Up f ∷ es)) (n : ℕ)
   abbrev now : Observed
   now = next (seen es) f
 
-  pub up_clean : none_dirty (next (seen es) f) (Up f) n ≡ true → NoneDirty (Up f ∷ es) n
-  up_clean h w b m lm ne =
-      let e = exact es a.0 in
-      let sends : Sends was.public f b.0 w = subst (λ p. Sends p f b.0 w) (sym e.public) b.2 in
-      let meant = e.meant b.0 b.1 in
-      clean_by (m == f.agent.0) (now.public.due m) (now.told m) (w.state m)
-      ((leads was f b.0 w e.sound a.1 meant sends).told m lm)
-      (λ same. subst (λ k. may (now.told k).told (w.state k).copy ≡ true) (sym (eqb-true m f.agent.0 same)) (settled_sent was f b.0 w e.sound a.1 meant sends))
-      (one_of (m == n) _ (each_below 32 (λ k. k == n || not (may_be_dirty (now.public.due k) (now.told k) (tells_of (Up f) k))) h m lm) (unlike m n ne))
+  abbrev each_clean : ℕ → Bool
+  each_clean k = k == n || not (may_be_dirty (now.public.due k) (now.told k) (tells_of (Up f) k))
+
+  up_else : all_below 32 each_clean ≡ true → (k : ℕ) → k < 32 → k ≢ n → not (may_be_dirty (now.public.due k) (now.told k) (tells_of (Up f) k)) ≡ true
+  up_else h k lk apart = one_of (k == n) _ (each_below 32 each_clean h k lk) (unlike k n apart)
+
+  module _ (h : all_below 32 each_clean ≡ true) (w : World) (b : Behind (Up f ∷ es) w) where
+    abbrev sends : Sends was.public f b.0 w
+    sends = subst (λ p. Sends p f b.0 w) (sym (exact es a.0).public) b.2
+
+    abbrev led : Meaning now w
+    led = leads was f b.0 w (exact es a.0).sound a.1 ((exact es a.0).meant b.0 b.1) sends
+
+    others_clean : (m : ℕ) → m < 32 → m ≢ n → is_dirty (w.state m).copy ≡ false
+    others_clean m lm ne = clean_by (m == f.agent.0) (now.public.due m) (now.told m) (w.state m)
+        (led.told m lm)
+        (λ same. subst (λ k. may (now.told k).told (w.state k).copy ≡ true) (sym (eqb-true m f.agent.0 same)) (settled_sent was f b.0 w (exact es a.0).sound a.1 ((exact es a.0).meant b.0 b.1) sends))
+        (up_else h m lm ne)
+
+    calm_each : is_dirty (w.state n).copy ≡ false → (k : ℕ) → k ≢ f.agent.0 → k < 32 → fresh (was.public.due k) (was.told k) (b.0.state k) ≡ false
+    calm_each nd = split (λ k. k ≢ f.agent.0 → k < 32 → fresh (was.public.due k) (was.told k) (b.0.state k) ≡ false) n
+        (λ apart lk. unstored_clean (was.public.due n) (was.told n) (b.0.state n) (subst (λ (z : Held). is_dirty z.copy ≡ false) (sends.others.state n lk apart) nd))
+        (λ k ne apart lk. up_calm es f a b.0 k apart (not_stored (is_dirty (most (now.told k))) _ (up_else h k lk ne)))
+
+    value_home : n < 32 → is_dirty (w.state n).copy ≡ false → (c : Bool) → is_dirty (most (now.told n)) ≡ c → (is_dirty (most (now.told n)) || now.current) ≡ true → w.home ≡ w.last
+    value_home low nd true hc e = no (sym nd ∙ told_dirty (now.public.due n) (now.told n) (w.state n) hc (led.told n low))
+    value_home low nd false hc e = sym (last_here was f b.0 w (exact es a.0).sound a.1 ((exact es a.0).meant b.0 b.1) sends (one_of (is_dirty (most (now.told n))) _ e hc) (calm_each nd))
+
+  pub up_clean : n < 32 → none_dirty (next (seen es) f) (Up f) n ≡ true → NoneDirty (Up f ∷ es) n
+  up_clean low h w b =
+      let rest = right (is_dirty (most (now.told n)) || now.current) _ h in
+      (others_clean rest w b, λ nd. value_home rest w b low nd (is_dirty (most (now.told n))) refl (left _ (all_below 32 each_clean) h))
 
   pub up_none : NoneDirty (Up f ∷ es) n → none_dirty (next (seen es) f) (Up f) n ≡ true
-  up_none all = below_all 32 (λ k. k == n || not (may_be_dirty (now.public.due k) (now.told k) (tells_of (Up f) k)))
+  up_none all = both (is_dirty (most (now.told n)) || now.current) _
+      (or_right (is_dirty (most (now.told n))) _ (λ nd. be_true now.current (λ c. others_differ (was_home now) ((all (lost_world now) (up_behind es f a (lost_world now) (lost_settled now f.agent.0 c))).1 nd))))
+      (below_all 32 each_clean
       (λ m lm. or_right (m == n) _ (λ ne. not_true _ (λ d.
-      let e = exact es a.0 in
       let can : can_be_dirty (now.public.due m) (now.told m) ≡ true = weaker (is_dirty (most (now.told m))) (m == f.agent.0) _ d in
       let w2 = dirty_world now m can in
       let st : Settled now f.agent.0 w2 = record {
         undone = dirty_undone now m can f.agent.0;
         top = settled_at now m can f.agent.0 (λ h. surely (is_dirty (most (now.told m))) (m == f.agent.0) _ d (subst (λ k. (m == k) ≡ true) h (alike m)));
       } in
-      sym (all w2 (world_before was f w2, e.after (world_before was f w2) (before_meant was f w2 e.sound a.1 a.2 st), subst (λ p. Sends p f (world_before was f w2) w2) e.public (before_sends was f w2 e.sound a.1 a.2 st)) m lm (differ m n ne))
-      ∙ dirty_there now m can)))
+      sym ((all w2 (up_behind es f a w2 st)).0 m lm (differ m n ne))
+      ∙ dirty_there now m can))))
 
 -- A FLIT OF THE HOME
 module _ (es : List Flit) (g : HomeFlit) (a : Accepted (Down g ∷ es)) (n : ℕ) where
@@ -175,22 +214,59 @@ module _ (es : List Flit) (g : HomeFlit) (a : Accepted (Down g ∷ es)) (n : ℕ
   abbrev left_so : Observed
   left_so = next_home (seen es) g
 
-  pub down_clean : none_dirty (next_home (seen es) g) (Down g) n ≡ true → NoneDirty (Down g ∷ es) n
-  down_clean h w b m lm ne =
-      let e = exact es a.0 in
-      let gives : Gives kept.public g b.0 w = subst (λ q. Gives q g b.0 w) (sym e.public) b.3 in
-      let meant = e.meant b.0 b.1 in
-      let settled : (needs_quiet g.grant || may (left_so.told g.agent.0).told (w.state g.agent.0).copy) ≡ true =
-      subst (λ (x : Known). (needs_quiet g.grant || may x.told (w.state g.agent.0).copy) ≡ true) (sym (here g.agent.0 (told_granted g.grant (kept.public.due g.agent.0) (kept.told g.agent.0)) kept.told))
-      (subst (λ (x : Held). (needs_quiet g.grant || may (told_granted g.grant (kept.public.due g.agent.0) (kept.told g.agent.0)).told x.copy) ≡ true) (sym gives.state) (settled_given kept g a.1 (left _ _ a.2) (b.0.state g.agent.0) (meant.told g.agent.0 a.1))) in
-      clean_by (tells_of (Down g) m) (left_so.public.due m) (left_so.told m) (w.state m)
-      ((home_leads kept g b.0 w e.sound a.1 a.2 meant b.2 gives).told m lm)
-      (λ same. subst (λ k. may (left_so.told k).told (w.state k).copy ≡ true) (sym (eqb-true m g.agent.0 (left (m == g.agent.0) _ same)))
-      (one_of (needs_quiet g.grant) _ settled (turned _ (right (m == g.agent.0) _ same))))
-      (one_of (m == n) _ (each_below 32 (λ k. k == n || not (may_be_dirty (left_so.public.due k) (left_so.told k) (tells_of (Down g) k))) h m lm) (unlike m n ne))
+  abbrev each_left : ℕ → Bool
+  each_left k = k == n || not (may_be_dirty (left_so.public.due k) (left_so.told k) (tells_of (Down g) k))
+
+  down_else : all_below 32 each_left ≡ true → (k : ℕ) → k < 32 → k ≢ n → not (may_be_dirty (left_so.public.due k) (left_so.told k) (tells_of (Down g) k)) ≡ true
+  down_else h k lk apart = one_of (k == n) _ (each_below 32 each_left h k lk) (unlike k n apart)
+
+  module _ (h : all_below 32 each_left ≡ true) (w : World) (b : Behind (Down g ∷ es) w) where
+    abbrev gives : Gives kept.public g b.0 w
+    gives = subst (λ q. Gives q g b.0 w) (sym (exact es a.0).public) b.3
+
+    abbrev meant : Meaning kept b.0
+    meant = (exact es a.0).meant b.0 b.1
+
+    abbrev given : Meaning left_so w
+    given = home_leads kept g b.0 w (exact es a.0).sound a.1 a.2 meant b.2 gives
+
+    settled : (needs_quiet g.grant || may (left_so.told g.agent.0).told (w.state g.agent.0).copy) ≡ true
+    settled = subst (λ (x : Known). (needs_quiet g.grant || may x.told (w.state g.agent.0).copy) ≡ true) (sym (here g.agent.0 (told_granted g.grant (kept.public.due g.agent.0) (kept.told g.agent.0)) kept.told))
+        (subst (λ (x : Held). (needs_quiet g.grant || may (told_granted g.grant (kept.public.due g.agent.0) (kept.told g.agent.0)).told x.copy) ≡ true) (sym gives.state) (settled_given kept g a.1 (left _ _ a.2) (b.0.state g.agent.0) (meant.told g.agent.0 a.1)))
+
+    others_clean_then : (m : ℕ) → m < 32 → m ≢ n → is_dirty (w.state m).copy ≡ false
+    others_clean_then m lm ne = clean_by (tells_of (Down g) m) (left_so.public.due m) (left_so.told m) (w.state m)
+        (given.told m lm)
+        (λ same. subst (λ k. may (left_so.told k).told (w.state k).copy ≡ true) (sym (eqb-true m g.agent.0 (left (m == g.agent.0) _ same)))
+        (one_of (needs_quiet g.grant) _ settled (turned _ (right (m == g.agent.0) _ same))))
+        (down_else h m lm ne)
+
+    -- its own copy wasn't stored to where it isn't dirty
+    own_calm : is_dirty (w.state n).copy ≡ false → n < 32 → fresh (kept.public.due n) (kept.told n) (b.0.state n) ≡ false
+    own_calm nd low = split (λ k. is_dirty (w.state k).copy ≡ false → k < 32 → fresh (kept.public.due k) (kept.told k) (b.0.state k) ≡ false) g.agent.0
+        (λ x lk. unfresh kept g a.1 (left _ _ a.2) (b.0.state g.agent.0) (meant.told g.agent.0 a.1)
+        (unstored_clean (due_granted g.grant (kept.public.due g.agent.0)) (told_granted g.grant (kept.public.due g.agent.0) (kept.told g.agent.0)) (granted g.grant (kept.public.due g.agent.0) (b.0.state g.agent.0))
+        (subst (λ (z : Held). is_dirty z.copy ≡ false) gives.state x)))
+        (λ k apart x lk. unstored_clean (kept.public.due k) (kept.told k) (b.0.state k) (subst (λ (z : Held). is_dirty z.copy ≡ false) (gives.others.state k lk apart) x))
+        n nd low
+
+    unstored_then : is_dirty (w.state n).copy ≡ false → Unstored (seen es) b.0
+    unstored_then nd = split (λ k. k < 32 → fresh (kept.public.due k) (kept.told k) (b.0.state k) ≡ false) n (own_calm nd)
+        (λ k ne lk. down_calm es g a b.0 meant k lk (not_stored (is_dirty (most (left_so.told k))) _ (down_else h k lk ne)))
+
+    value_then : n < 32 → is_dirty (w.state n).copy ≡ false → (c : Bool) → is_dirty (most (left_so.told n)) ≡ c → (is_dirty (most (left_so.told n)) || left_so.current) ≡ true → w.home ≡ w.last
+    value_then low nd true hc e = no (sym nd ∙ told_dirty (left_so.public.due n) (left_so.told n) (w.state n) hc (given.told n low))
+    value_then low nd false hc e = down_home es g a w b (one_of (is_dirty (most (left_so.told n))) _ e hc) (unstored_then nd)
+
+  pub down_clean : n < 32 → none_dirty (next_home (seen es) g) (Down g) n ≡ true → NoneDirty (Down g ∷ es) n
+  down_clean low h w b =
+      let rest = right (is_dirty (most (left_so.told n)) || left_so.current) _ h in
+      (others_clean_then rest w b, λ nd. value_then rest w b low nd (is_dirty (most (left_so.told n))) refl (left _ (all_below 32 each_left) h))
 
   pub down_none : NoneDirty (Down g ∷ es) n → none_dirty (next_home (seen es) g) (Down g) n ≡ true
-  down_none all = below_all 32 (λ k. k == n || not (may_be_dirty (left_so.public.due k) (left_so.told k) (tells_of (Down g) k)))
+  down_none all = both (is_dirty (most (left_so.told n)) || left_so.current) _
+      (or_right (is_dirty (most (left_so.told n))) _ (λ nd. be_true left_so.current (λ c. others_differ (was_home left_so) ((all (lost_world left_so) (down_behind es g a (lost_world left_so) (lost_settled left_so g.agent.0 c))).1 nd))))
+      (below_all 32 each_left
       (λ m lm. or_right (m == n) _ (λ ne. not_true _ (λ d.
       let e = exact es a.0 in
       let can : can_be_dirty (left_so.public.due m) (left_so.told m) ≡ true = weaker (is_dirty (most (left_so.told m))) (tells_of (Down g) m) _ d in
@@ -199,8 +275,8 @@ module _ (es : List Flit) (g : HomeFlit) (a : Accepted (Down g ∷ es)) (n : ℕ
       let top : (needs_quiet g.grant || is_settled (left_so.public.due g.agent.0) (left_so.told g.agent.0) (w2.state g.agent.0)) ≡ true =
       or_right (needs_quiet g.grant) _ (λ q. settled_at left_so m can g.agent.0 (λ h. surely (is_dirty (most (left_so.told m))) (tells_of (Down g) m) _ d
       (both (m == g.agent.0) _ (subst (λ k. (m == k) ≡ true) h (alike m)) (flip _ q)))) in
-      sym (all w2 (world_given kept g w2, e.after (world_given kept g w2) (old_meant kept g w2 e.sound a.1 a.2 un top), old_informed kept g w2 e.sound a.1 a.2 un top, subst (λ q. Gives q g (world_given kept g w2) w2) e.public (old_gives kept g w2 e.sound a.1 a.2 un top)) m lm (differ m n ne))
-      ∙ dirty_there left_so m can)))
+      sym ((all w2 (world_given kept g w2, e.after (world_given kept g w2) (old_meant kept g w2 e.sound a.1 a.2 un top), old_informed kept g w2 e.sound a.1 a.2 un top, subst (λ q. Gives q g (world_given kept g w2) w2) e.public (old_gives kept g w2 e.sound a.1 a.2 un top))).0 m lm (differ m n ne))
+      ∙ dirty_there left_so m can))))
 
 -- WHOLE TRACES
 split_or : (a b : Bool) → (a || b) ≡ true → (a ≡ true) ⊎ (b ≡ true)
@@ -216,14 +292,14 @@ moment_of : (b x y : Bool) (es : List Flit) (n : ℕ) → (HomeIsLast es → x �
 moment_of true x y es n f g h = f h
 moment_of false x y es n f g h = g h
 
-up_moment : (es : List Flit) (f : CacheFlit) (a : Accepted (Up f ∷ es)) (n : ℕ) → is_moment (next (seen es) f) (Up f) n ≡ true → IsMoment (reads_once ((next (seen es) f).public.due n)) (Up f ∷ es) n
-up_moment es f a n = moment_by (reads_once ((next (seen es) f).public.due n)) (home_is_last (next (seen es) f) (Up f)) (none_dirty (next (seen es) f) (Up f) n) (Up f ∷ es) n (up_last es f a) (up_clean es f a n)
+up_moment : (es : List Flit) (f : CacheFlit) (a : Accepted (Up f ∷ es)) (n : ℕ) → n < 32 → is_moment (next (seen es) f) (Up f) n ≡ true → IsMoment (reads_once ((next (seen es) f).public.due n)) (Up f ∷ es) n
+up_moment es f a n low = moment_by (reads_once ((next (seen es) f).public.due n)) (home_is_last (next (seen es) f) (Up f)) (none_dirty (next (seen es) f) (Up f) n) (Up f ∷ es) n (up_last es f a) (up_clean es f a n low)
 
 up_found : (es : List Flit) (f : CacheFlit) (a : Accepted (Up f ∷ es)) (n : ℕ) → IsMoment (reads_once ((next (seen es) f).public.due n)) (Up f ∷ es) n → is_moment (next (seen es) f) (Up f) n ≡ true
 up_found es f a n = moment_of (reads_once ((next (seen es) f).public.due n)) (home_is_last (next (seen es) f) (Up f)) (none_dirty (next (seen es) f) (Up f) n) (Up f ∷ es) n (up_surely es f a) (up_none es f a n)
 
-down_moment : (es : List Flit) (g : HomeFlit) (a : Accepted (Down g ∷ es)) (n : ℕ) → is_moment (next_home (seen es) g) (Down g) n ≡ true → IsMoment (reads_once ((next_home (seen es) g).public.due n)) (Down g ∷ es) n
-down_moment es g a n = moment_by (reads_once ((next_home (seen es) g).public.due n)) (home_is_last (next_home (seen es) g) (Down g)) (none_dirty (next_home (seen es) g) (Down g) n) (Down g ∷ es) n (down_last es g a) (down_clean es g a n)
+down_moment : (es : List Flit) (g : HomeFlit) (a : Accepted (Down g ∷ es)) (n : ℕ) → n < 32 → is_moment (next_home (seen es) g) (Down g) n ≡ true → IsMoment (reads_once ((next_home (seen es) g).public.due n)) (Down g ∷ es) n
+down_moment es g a n low = moment_by (reads_once ((next_home (seen es) g).public.due n)) (home_is_last (next_home (seen es) g) (Down g)) (none_dirty (next_home (seen es) g) (Down g) n) (Down g ∷ es) n (down_last es g a) (down_clean es g a n low)
 
 down_found : (es : List Flit) (g : HomeFlit) (a : Accepted (Down g ∷ es)) (n : ℕ) → IsMoment (reads_once ((next_home (seen es) g).public.due n)) (Down g ∷ es) n → is_moment (next_home (seen es) g) (Down g) n ≡ true
 down_found es g a n = moment_of (reads_once ((next_home (seen es) g).public.due n)) (home_is_last (next_home (seen es) g) (Down g)) (none_dirty (next_home (seen es) g) (Down g) n) (Down g ∷ es) n (down_surely es g a) (down_none es g a n)
@@ -250,12 +326,12 @@ lost_moment es e n d hd before c so h = both (awaits_moment d) _ (sym (ap awaits
 same_due : (es : List Flit) → Accepted es → (n : ℕ) → (public_of es).due n ≡ (seen es).public.due n
 same_due es a n = ap (λ (p : Public). p.due n) (sym (exact es a).public)
 
-pub moment_shown : (es : List Flit) → Accepted es → (n : ℕ) → shown_by es n ≡ true → HasMoment es n
-moment_shown [] a n h = no h
-moment_shown (Up f ∷ es) a n h = kept_moment es (Up f) n ((next (seen es) f).public.due n) (same_due (Up f ∷ es) a n) (moment_shown es a.0 n)
-    (is_moment (next (seen es) f) (Up f) n) (up_moment es f a n) (right (waits_by (Up f ∷ es)) _ h)
-moment_shown (Down g ∷ es) a n h = kept_moment es (Down g) n ((next_home (seen es) g).public.due n) (same_due (Down g ∷ es) a n) (moment_shown es a.0 n)
-    (is_moment (next_home (seen es) g) (Down g) n) (down_moment es g a n) (right (waits_by (Down g ∷ es)) _ h)
+pub moment_shown : (es : List Flit) → Accepted es → (n : ℕ) → n < 32 → shown_by es n ≡ true → HasMoment es n
+moment_shown [] a n low h = no h
+moment_shown (Up f ∷ es) a n low h = kept_moment es (Up f) n ((next (seen es) f).public.due n) (same_due (Up f ∷ es) a n) (moment_shown es a.0 n low)
+    (is_moment (next (seen es) f) (Up f) n) (up_moment es f a n low) (right (waits_by (Up f ∷ es)) _ h)
+moment_shown (Down g ∷ es) a n low h = kept_moment es (Down g) n ((next_home (seen es) g).public.due n) (same_due (Down g ∷ es) a n) (moment_shown es a.0 n low)
+    (is_moment (next_home (seen es) g) (Down g) n) (down_moment es g a n low) (right (waits_by (Down g ∷ es)) _ h)
 
 pub shown_moment : (es : List Flit) → Accepted es → (n : ℕ) → n < 32 → HasMoment es n → shown_by es n ≡ true
 shown_moment [] a n low h = absurd h

@@ -30,56 +30,57 @@ if_some : (c : Bool) (x s : Held) → (if c then Some x else None) ≡ Some s �
 if_some true x s h = search (rules, arith)
 if_some false x s h = absurd (empty s h)
 
-pub acted_can : (a : Act) (d : Due) (s s' : Held) → acts a d s ≡ Some s' → can_be a d ≡ true
-acted_can (Resend x) (Resending y) s s' e = left _ _ (if_some _ s s' e)
-acted_can (Resend x) Nothing s s' e = absurd (empty s' e)
-acted_can (Resend x) (Completion y) s s' e = absurd (empty s' e)
-acted_can (Resend x) (SureCompletion y) s s' e = absurd (empty s' e)
-acted_can (Resend x) (WriteData y) s s' e = absurd (empty s' e)
-acted_can (Resend x) Acknowledgement s s' e = absurd (empty s' e)
-acted_can (CopyBackWrData x) (WriteData y) s s' e = left _ _ (if_some _ _ s' e)
-acted_can (CopyBackWrData x) Nothing s s' e = absurd (empty s' e)
-acted_can (CopyBackWrData x) (Completion y) s s' e = absurd (empty s' e)
-acted_can (CopyBackWrData x) (SureCompletion y) s s' e = absurd (empty s' e)
-acted_can (CopyBackWrData x) (Resending y) s s' e = absurd (empty s' e)
-acted_can (CopyBackWrData x) Acknowledgement s s' e = absurd (empty s' e)
-acted_can NonCopyBackWrData (WriteData y) s s' e = left _ _ (if_some _ _ s' e)
-acted_can NonCopyBackWrData Nothing s s' e = absurd (empty s' e)
-acted_can NonCopyBackWrData (Completion y) s s' e = absurd (empty s' e)
-acted_can NonCopyBackWrData (SureCompletion y) s s' e = absurd (empty s' e)
-acted_can NonCopyBackWrData (Resending y) s s' e = absurd (empty s' e)
-acted_can NonCopyBackWrData Acknowledgement s s' e = absurd (empty s' e)
-acted_can (Request x) d s s' e = refl
-acted_can (SnpResp x) d s s' e = refl
-acted_can CompAck d s s' e = refl
+pub acted_can : (a : Act) (b : Bool) (d : Due) (s s' : Held) → acts a b d s ≡ Some s' → can_be a d ≡ true
+acted_can (Resend x) b (Resending y) s s' e = left _ _ (if_some _ s s' e)
+acted_can (Resend x) b Nothing s s' e = absurd (empty s' e)
+acted_can (Resend x) b (Completion y) s s' e = absurd (empty s' e)
+acted_can (Resend x) b (SureCompletion y) s s' e = absurd (empty s' e)
+acted_can (Resend x) b (WriteData y) s s' e = absurd (empty s' e)
+acted_can (Resend x) b Acknowledgement s s' e = absurd (empty s' e)
+acted_can (CopyBackWrData x) b (WriteData y) s s' e = left _ _ (if_some _ _ s' e)
+acted_can (CopyBackWrData x) b Nothing s s' e = absurd (empty s' e)
+acted_can (CopyBackWrData x) b (Completion y) s s' e = absurd (empty s' e)
+acted_can (CopyBackWrData x) b (SureCompletion y) s s' e = absurd (empty s' e)
+acted_can (CopyBackWrData x) b (Resending y) s s' e = absurd (empty s' e)
+acted_can (CopyBackWrData x) b Acknowledgement s s' e = absurd (empty s' e)
+acted_can NonCopyBackWrData b (WriteData y) s s' e = left _ _ (if_some _ _ s' e)
+acted_can NonCopyBackWrData b Nothing s s' e = absurd (empty s' e)
+acted_can NonCopyBackWrData b (Completion y) s s' e = absurd (empty s' e)
+acted_can NonCopyBackWrData b (SureCompletion y) s s' e = absurd (empty s' e)
+acted_can NonCopyBackWrData b (Resending y) s s' e = absurd (empty s' e)
+acted_can NonCopyBackWrData b Acknowledgement s s' e = absurd (empty s' e)
+acted_can (Request x) b d s s' e = refl
+acted_can (SnpResp x) b d s s' e = refl
+acted_can CompAck b d s s' e = refl
 
-pub fits_can : (a : Act) (d : Due) (t : Known) → fits_told a d t ≡ true → can_be a d ≡ true
-fits_can (Resend x) (Resending y) t e = left _ _ e
-fits_can (Resend x) Nothing t e = no e
-fits_can (Resend x) (Completion y) t e = no e
-fits_can (Resend x) (SureCompletion y) t e = no e
-fits_can (Resend x) (WriteData y) t e = no e
-fits_can (Resend x) Acknowledgement t e = no e
-fits_can (CopyBackWrData x) (WriteData y) t e = left _ _ e
-fits_can (CopyBackWrData x) Nothing t e = no e
-fits_can (CopyBackWrData x) (Completion y) t e = no e
-fits_can (CopyBackWrData x) (SureCompletion y) t e = no e
-fits_can (CopyBackWrData x) (Resending y) t e = no e
-fits_can (CopyBackWrData x) Acknowledgement t e = no e
-fits_can NonCopyBackWrData (WriteData y) t e = left _ _ e
-fits_can NonCopyBackWrData Nothing t e = no e
-fits_can NonCopyBackWrData (Completion y) t e = no e
-fits_can NonCopyBackWrData (SureCompletion y) t e = no e
-fits_can NonCopyBackWrData (Resending y) t e = no e
-fits_can NonCopyBackWrData Acknowledgement t e = no e
-fits_can (Request x) d t e = refl
-fits_can (SnpResp x) d t e = refl
-fits_can CompAck d t e = refl
+pub fits_can : (a : Act) (b : Bool) (d : Due) (t : Known) → fits_told a b d t ≡ true → can_be a d ≡ true
+fits_can (Resend x) b (Resending y) t e = left _ _ e
+fits_can (Resend x) b Nothing t e = no e
+fits_can (Resend x) b (Completion y) t e = no e
+fits_can (Resend x) b (SureCompletion y) t e = no e
+fits_can (Resend x) b (WriteData y) t e = no e
+fits_can (Resend x) b Acknowledgement t e = no e
+fits_can (CopyBackWrData x) b (WriteData y) t e = left _ _ e
+fits_can (CopyBackWrData x) b Nothing t e = no e
+fits_can (CopyBackWrData x) b (Completion y) t e = no e
+fits_can (CopyBackWrData x) b (SureCompletion y) t e = no e
+fits_can (CopyBackWrData x) b (Resending y) t e = no e
+fits_can (CopyBackWrData x) b Acknowledgement t e = no e
+fits_can NonCopyBackWrData b (WriteData y) t e = left _ _ e
+fits_can NonCopyBackWrData b Nothing t e = no e
+fits_can NonCopyBackWrData b (Completion y) t e = no e
+fits_can NonCopyBackWrData b (SureCompletion y) t e = no e
+fits_can NonCopyBackWrData b (Resending y) t e = no e
+fits_can NonCopyBackWrData b Acknowledgement t e = no e
+fits_can (Request x) b d t e = refl
+fits_can (SnpResp x) b d t e = refl
+fits_can CompAck b d t e = refl
 
 -- FLITS OF A CACHE
 -- those for which the kind of what is due is of no matter, and those which it has to match
-abbrev pub all_plain : (Act → Bool) → Bool
-all_plain f = all_kinds (λ k. f (Request k)) && (all_answers (λ a. f (SnpResp a)) && f CompAck)
+-- x: the snoop lets dirty data be thrown away, which only an answer turns on
+abbrev pub all_plain : (Act → Bool → Bool) → Bool → Bool
+all_plain f x = all_kinds (λ k. f (Request k) x) && (all_answers (λ a. all_bools (λ y. f (SnpResp a) y)) && f CompAck x)
 
 abbrev pub all_resends : (Act → Due → Bool) → Bool
 all_resends f = all_kinds (λ k. all_kinds (λ q. where_it (same_kind k q) (λ _. f (Resend k) (Resending q))))
@@ -93,61 +94,62 @@ all_whole_writes f = all_kinds (λ k. where_it (is_whole_write k) (λ _. f NonCo
 abbrev pub all_paired : (Act → Due → Bool) → Bool
 all_paired f = all_resends f && (all_copy_backs f && all_whole_writes f)
 
-pub record Tried (f : Act → Due → Bool) : Type 0 where
-  pub plain : (d : Due) → all_plain (λ a. f a d) ≡ true
-  pub paired : all_paired f ≡ true
+pub record Tried (f : Act → Bool → Due → Bool) : Type 0 where
+  pub plain : (x : Bool) (d : Due) → all_plain (λ a y. f a y d) x ≡ true
+  pub paired : (x : Bool) → all_paired (λ a d. f a x d) ≡ true
 
-pub each_tried : (f : Act → Due → Bool) → Tried f → (a : Act) (d : Due) → can_be a d ≡ true → f a d ≡ true
-each_tried f h (Request k) d c = each_kind (λ k. f (Request k) d) (left (all_kinds (λ k. f (Request k) d)) _ (h.plain d)) k
-each_tried f h (SnpResp a) d c = each_answer (λ a. f (SnpResp a) d) (left (all_answers (λ a. f (SnpResp a) d)) _ (right (all_kinds (λ k. f (Request k) d)) _ (h.plain d))) a
-each_tried f h CompAck d c = right (all_answers (λ a. f (SnpResp a) d)) _ (right (all_kinds (λ k. f (Request k) d)) _ (h.plain d))
-each_tried f h (Resend k) (Resending q) c = tried (same_kind k q) (λ _. f (Resend k) (Resending q))
-    (each_kind (λ q. where_it (same_kind k q) (λ _. f (Resend k) (Resending q))) (each_kind (λ k. all_kinds (λ q. where_it (same_kind k q) (λ _. f (Resend k) (Resending q))))
-    (left (all_resends f) _ h.paired) k) q) c
-each_tried f h (Resend k) Nothing c = no c
-each_tried f h (Resend k) (Completion q) c = no c
-each_tried f h (Resend k) (SureCompletion q) c = no c
-each_tried f h (Resend k) (WriteData q) c = no c
-each_tried f h (Resend k) Acknowledgement c = no c
-each_tried f h (CopyBackWrData s) (WriteData k) c = each_form (λ s. f (CopyBackWrData s) (WriteData k)) (tried (is_copy_back k) (λ _. all_forms (λ s. f (CopyBackWrData s) (WriteData k)))
-    (each_kind (λ k. where_it (is_copy_back k) (λ _. all_forms (λ s. f (CopyBackWrData s) (WriteData k))))
-    (left (all_copy_backs f) _ (right (all_resends f) _ h.paired)) k) c) s
-each_tried f h (CopyBackWrData s) Nothing c = no c
-each_tried f h (CopyBackWrData s) (Completion q) c = no c
-each_tried f h (CopyBackWrData s) (SureCompletion q) c = no c
-each_tried f h (CopyBackWrData s) (Resending q) c = no c
-each_tried f h (CopyBackWrData s) Acknowledgement c = no c
-each_tried f h NonCopyBackWrData (WriteData k) c = tried (is_whole_write k) (λ _. f NonCopyBackWrData (WriteData k))
-    (each_kind (λ k. where_it (is_whole_write k) (λ _. f NonCopyBackWrData (WriteData k))) (right (all_copy_backs f) _ (right (all_resends f) _ h.paired)) k) c
-each_tried f h NonCopyBackWrData Nothing c = no c
-each_tried f h NonCopyBackWrData (Completion q) c = no c
-each_tried f h NonCopyBackWrData (SureCompletion q) c = no c
-each_tried f h NonCopyBackWrData (Resending q) c = no c
-each_tried f h NonCopyBackWrData Acknowledgement c = no c
+pub each_tried : (f : Act → Bool → Due → Bool) → Tried f → (a : Act) (x : Bool) (d : Due) → can_be a d ≡ true → f a x d ≡ true
+each_tried f h (Request k) x d c = each_kind (λ k. f (Request k) x d) (left (all_kinds (λ k. f (Request k) x d)) _ (h.plain x d)) k
+each_tried f h (SnpResp a) x d c = each_bool (λ y. f (SnpResp a) y d) (each_answer (λ a. all_bools (λ y. f (SnpResp a) y d))
+    (left (all_answers (λ a. all_bools (λ y. f (SnpResp a) y d))) _ (right (all_kinds (λ k. f (Request k) x d)) _ (h.plain x d))) a) x
+each_tried f h CompAck x d c = right (all_answers (λ a. all_bools (λ y. f (SnpResp a) y d))) _ (right (all_kinds (λ k. f (Request k) x d)) _ (h.plain x d))
+each_tried f h (Resend k) x (Resending q) c = tried (same_kind k q) (λ _. f (Resend k) x (Resending q))
+    (each_kind (λ q. where_it (same_kind k q) (λ _. f (Resend k) x (Resending q))) (each_kind (λ k. all_kinds (λ q. where_it (same_kind k q) (λ _. f (Resend k) x (Resending q))))
+    (left (all_resends (λ a d. f a x d)) _ (h.paired x)) k) q) c
+each_tried f h (Resend k) x Nothing c = no c
+each_tried f h (Resend k) x (Completion q) c = no c
+each_tried f h (Resend k) x (SureCompletion q) c = no c
+each_tried f h (Resend k) x (WriteData q) c = no c
+each_tried f h (Resend k) x Acknowledgement c = no c
+each_tried f h (CopyBackWrData s) x (WriteData k) c = each_form (λ s. f (CopyBackWrData s) x (WriteData k)) (tried (is_copy_back k) (λ _. all_forms (λ s. f (CopyBackWrData s) x (WriteData k)))
+    (each_kind (λ k. where_it (is_copy_back k) (λ _. all_forms (λ s. f (CopyBackWrData s) x (WriteData k))))
+    (left (all_copy_backs (λ a d. f a x d)) _ (right (all_resends (λ a d. f a x d)) _ (h.paired x))) k) c) s
+each_tried f h (CopyBackWrData s) x Nothing c = no c
+each_tried f h (CopyBackWrData s) x (Completion q) c = no c
+each_tried f h (CopyBackWrData s) x (SureCompletion q) c = no c
+each_tried f h (CopyBackWrData s) x (Resending q) c = no c
+each_tried f h (CopyBackWrData s) x Acknowledgement c = no c
+each_tried f h NonCopyBackWrData x (WriteData k) c = tried (is_whole_write k) (λ _. f NonCopyBackWrData x (WriteData k))
+    (each_kind (λ k. where_it (is_whole_write k) (λ _. f NonCopyBackWrData x (WriteData k))) (right (all_copy_backs (λ a d. f a x d)) _ (right (all_resends (λ a d. f a x d)) _ (h.paired x))) k) c
+each_tried f h NonCopyBackWrData x Nothing c = no c
+each_tried f h NonCopyBackWrData x (Completion q) c = no c
+each_tried f h NonCopyBackWrData x (SureCompletion q) c = no c
+each_tried f h NonCopyBackWrData x (Resending q) c = no c
+each_tried f h NonCopyBackWrData x Acknowledgement c = no c
 
-abbrev pub spots : (Act → Due → Known → Held → Bool → Bool) → Act → Due → Bool
-spots f a d = all_knowns (λ k. all_helds (λ h. all_bools (λ b. f a d k h b)))
+abbrev pub spots : (Act → Bool → Due → Known → Held → Bool → Bool) → Act → Bool → Due → Bool
+spots f a x d = all_knowns (λ k. all_helds (λ h. all_bools (λ b. f a x d k h b)))
 
-pub each_spot : (f : Act → Due → Known → Held → Bool → Bool) → Tried (spots f) → (a : Act) (d : Due) → can_be a d ≡ true → (k : Known) → (h : Held) → (b : Bool) → f a d k h b ≡ true
-each_spot f e a d c k h b = each_bool (λ b. f a d k h b) (each_held (λ h. all_bools (λ b. f a d k h b)) (each_known (λ k. all_helds (λ h. all_bools (λ b. f a d k h b))) (each_tried (spots f) e a d c) k) h) b
+pub each_spot : (f : Act → Bool → Due → Known → Held → Bool → Bool) → Tried (spots f) → (a : Act) (x : Bool) (d : Due) → can_be a d ≡ true → (k : Known) → (h : Held) → (b : Bool) → f a x d k h b ≡ true
+each_spot f e a x d c k h b = each_bool (λ b. f a x d k h b) (each_held (λ h. all_bools (λ b. f a x d k h b)) (each_known (λ k. all_helds (λ h. all_bools (λ b. f a x d k h b))) (each_tried (spots f) e a x d c) k) h) b
 
-abbrev pub sent_spots : (Act → Due → Held → Bool) → Act → Due → Bool
-sent_spots f a d = all_helds (λ h. f a d h)
+abbrev pub sent_spots : (Act → Bool → Due → Held → Bool) → Act → Bool → Due → Bool
+sent_spots f a x d = all_helds (λ h. f a x d h)
 
-pub each_sent : (f : Act → Due → Held → Bool) → Tried (sent_spots f) → (a : Act) (d : Due) → can_be a d ≡ true → (h : Held) → f a d h ≡ true
-each_sent f e a d c h = each_held (λ h. f a d h) (each_tried (sent_spots f) e a d c) h
+pub each_sent : (f : Act → Bool → Due → Held → Bool) → Tried (sent_spots f) → (a : Act) (x : Bool) (d : Due) → can_be a d ≡ true → (h : Held) → f a x d h ≡ true
+each_sent f e a x d c h = each_held (λ h. f a x d h) (each_tried (sent_spots f) e a x d c) h
 
-abbrev pub told_spots : (Act → Due → Known → Told → Bool) → Act → Due → Bool
-told_spots f a d = all_knowns (λ k. all_tolds (λ u. f a d k u))
+abbrev pub told_spots : (Act → Bool → Due → Known → Told → Bool) → Act → Bool → Due → Bool
+told_spots f a x d = all_knowns (λ k. all_tolds (λ u. f a x d k u))
 
-pub each_told_spot : (f : Act → Due → Known → Told → Bool) → Tried (told_spots f) → (a : Act) (d : Due) → can_be a d ≡ true → (k : Known) → (u : Told) → f a d k u ≡ true
-each_told_spot f e a d c k u = each_told (λ u. f a d k u) (each_known (λ k. all_tolds (λ u. f a d k u)) (each_tried (told_spots f) e a d c) k) u
+pub each_told_spot : (f : Act → Bool → Due → Known → Told → Bool) → Tried (told_spots f) → (a : Act) (x : Bool) (d : Due) → can_be a d ≡ true → (k : Known) → (u : Told) → f a x d k u ≡ true
+each_told_spot f e a x d c k u = each_told (λ u. f a x d k u) (each_known (λ k. all_tolds (λ u. f a x d k u)) (each_tried (told_spots f) e a x d c) k) u
 
-abbrev pub known_spots : (Act → Due → Known → Bool) → Act → Due → Bool
-known_spots f a d = all_knowns (λ k. f a d k)
+abbrev pub known_spots : (Act → Bool → Due → Known → Bool) → Act → Bool → Due → Bool
+known_spots f a x d = all_knowns (λ k. f a x d k)
 
-pub each_known_spot : (f : Act → Due → Known → Bool) → Tried (known_spots f) → (a : Act) (d : Due) → can_be a d ≡ true → (k : Known) → f a d k ≡ true
-each_known_spot f e a d c k = each_known (λ k. f a d k) (each_tried (known_spots f) e a d c) k
+pub each_known_spot : (f : Act → Bool → Due → Known → Bool) → Tried (known_spots f) → (a : Act) (x : Bool) (d : Due) → can_be a d ≡ true → (k : Known) → f a x d k ≡ true
+each_known_spot f e a x d c k = each_known (λ k. f a x d k) (each_tried (known_spots f) e a x d c) k
 
 -- FLITS OF THE HOME
 abbrev pub all_gifts : (Grant → Due → Option Snoop → Bool) → Bool

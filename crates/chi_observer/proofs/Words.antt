@@ -1,5 +1,5 @@
 -- The words of a line, known or not.
-use Rattle.std.proofs.Common.{rules, arith, ◌≡◌, ℕ, List, [], refl, sym, ap, subst, ◌∙◌}
+use Rattle.std.proofs.Common.{rules, arith, ◌≡◌, ℕ, List, [], ◌∷◌, suc, length, refl, sym, ap, subst, ◌∙◌}
 use Rattle.std.specs.Prelude.{Bool, true, false, ◌&&◌, ◌||◌, not, Option, Some, None, nat_eq, if◌then◌else◌}
 use Rattle.std.specs.Bool.{Decides}
 use Rattle.std.specs.Cmp.{unsigned_Decides}
@@ -83,3 +83,17 @@ some_value false x o h = no h
 pub old_value : (d : Bool) (x : List ℕ) (o : Option (List ℕ)) → d ≡ false → (if d then Some x else o) ≡ o
 old_value true x o h = no (sym h)
 old_value false x o h = refl
+
+-- other words
+abbrev pub others_than : List ℕ → List ℕ
+others_than v = 0 ∷ v
+
+longer : (n : ℕ) → n ≡ suc n → ⊥
+longer n h = search (rules, arith)
+
+pub others_differ : (v : List ℕ) → v ≡ others_than v → false ≡ true
+others_differ v h = absurd (longer (length v) (ap (λ (xs : List ℕ). length xs) h))
+
+pub be_true : (a : Bool) → (a ≡ false → false ≡ true) → a ≡ true
+be_true true h = refl
+be_true false h = h refl

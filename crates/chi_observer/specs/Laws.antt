@@ -6,7 +6,7 @@ use Rattle.chi_observer.specs.Worlds.{World, Coherent, Hidden, Drift, Sends, Giv
 use Rattle.chi_observer.specs.Observed.{Observed, Sound, Meaning, takes, next, takes_home, next_home}
 
 abbrev pub MeaningIsCoherent : Type 0
-MeaningIsCoherent = (o : Observed) (w : World) → Sound o → Meaning o w → Coherent w
+MeaningIsCoherent = (o : Observed) (w : World) → Sound o → Meaning o w → Coherent o.public w
 
 abbrev pub MeaningIsClosed : Type 0
 MeaningIsClosed = (o : Observed) (w w' : World) → Sound o → Meaning o w → Hidden o.public w w' → Meaning o w'

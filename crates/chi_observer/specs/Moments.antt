@@ -6,8 +6,8 @@ use Rattle.chi_observer.specs.declared.flits.Flit.{Flit}
 use Rattle.chi_observer.specs.declared.flits.Flit.TheVariants.{Up, Down}
 use Rattle.chi_observer.specs.declared.flits.Due.{Due}
 use Rattle.chi_observer.specs.Copies.{is_unique, is_dirty}
-use Rattle.chi_observer.specs.Rules.{is_request, needs_quiet, awaits_moment, reads_once, opens_moment as opens_by, needs_moment}
-use Rattle.chi_observer.specs.Tables.{Known, most, may_be_free}
+use Rattle.chi_observer.specs.Rules.{may_be_free, is_request, needs_quiet, awaits_moment, reads_once, opens_moment as opens_by, needs_moment}
+use Rattle.chi_observer.specs.Tables.{Known, most}
 use Rattle.chi_observer.specs.Worlds.{all_below}
 use Rattle.chi_observer.specs.Observed.{Observed, next, next_home}
 
@@ -33,9 +33,9 @@ may_be_stored d k told = not told && (may_be_free d && is_unique (most k))
 abbrev pub may_be_dirty : Due → Known → Bool → Bool
 may_be_dirty d k told = is_dirty (most k) || may_be_stored d k told
 
--- right behind the flit, behind which o is kept, no other copy can be dirty
+-- right behind the flit, behind which o is kept, no other copy can be dirty, and the value isn't lost
 abbrev pub none_dirty : Observed → Flit → ℕ → Bool
-none_dirty o e n = all_below 32 (λ m. m == n || not (may_be_dirty (o.public.due m) (o.told m) (tells_of e m)))
+none_dirty o e n = (is_dirty (most (o.told n)) || o.current) && all_below 32 (λ m. m == n || not (may_be_dirty (o.public.due m) (o.told m) (tells_of e m)))
 
 -- and the home's own copy is surely the value last stored
 abbrev pub home_is_last : Observed → Flit → Bool

@@ -6,8 +6,8 @@ use Rattle.chi_observer.specs.declared.flits.CacheFlit.{CacheFlit}
 use Rattle.chi_observer.specs.declared.flits.HomeFlit.{HomeFlit}
 use Rattle.chi_observer.specs.Copies.{holds_data, same}
 use Rattle.chi_observer.specs.Copies.Copy.{Invalid, UniqueDirty}
-use Rattle.chi_observer.specs.Rules.{has_data, tells_words, needs_alone, makes, allows}
-use Rattle.chi_observer.specs.Tables.{Known, most, reach, fresh, goes_with, told_after, fits_told, renews, told_granted, shows_told}
+use Rattle.chi_observer.specs.Rules.{has_data, tells_words, lets_go, needs_alone, makes, settles, allows}
+use Rattle.chi_observer.specs.Tables.{Known, most, reach, fresh, goes_with, told_after, fits_told, renews, told_granted, fills_told, shows_told}
 use Rattle.chi_observer.specs.Worlds.{Public, World, home_may, all_below, put, public_after, public_granted}
 
 -- what flits say by themselves; what is told of each copy; the home's words, where flits have shown them; whether the
@@ -18,10 +18,11 @@ pub record Observed : Type 0 where
   pub home : Option (List ℕ)
   pub current : Bool
 
--- what always holds of it: what is told goes together, and where the value isn't the home's someone is surely dirty
+-- what always holds of it: what is told goes together, and where the value isn't the home's someone is surely dirty, or a
+-- SnpMakeInvalid was answered
 pub record Sound (o : Observed) : Type 0 where
   pub pairs : (n m : ℕ) → n < 32 → m < 32 → n ≢ m → goes_with (o.told n) (o.told m) ≡ true
-  pub owner : o.current ≡ false → (n : ℕ) × (n < 32) × (same (most (o.told n)) UniqueDirty ≡ true)
+  pub owner : o.current ≡ false → o.public.thrown ≡ false → (n : ℕ) × (n < 32) × (same (most (o.told n)) UniqueDirty ≡ true)
 
 -- nobody has stored since the value was told
 abbrev pub Unstored : Observed → World → Type 0
@@ -42,8 +43,8 @@ fits (Some u) v = pointwise nat_eq u v
 -- A FLIT OF A CACHE
 -- some copy sends it, and its data are the value, where that is known
 abbrev pub takes : Observed → CacheFlit → Bool
-takes o f = allows f.act (o.public.snooped f.agent.0) && (fits_told f.act (o.public.due f.agent.0) (o.told f.agent.0)
-    && (not (has_data f.act) || (renews f.act (o.public.due f.agent.0) (o.told f.agent.0) || (not o.current || fits o.home f.shown))))
+takes o f = allows f.act (o.public.snooped f.agent.0) && (fits_told f.act (lets_go (o.public.snooped f.agent.0)) (o.public.due f.agent.0) (o.told f.agent.0)
+    && (not (has_data f.act) || (renews f.act (lets_go (o.public.snooped f.agent.0)) (o.public.due f.agent.0) (o.told f.agent.0) || (not o.current || fits o.home f.shown))))
 
 -- its data are surely not the value that is known
 abbrev pub differs : Observed → CacheFlit → Bool
@@ -60,7 +61,7 @@ next o f = record {
   public = public_after f o.public;
   told = put f.agent.0 (told_after f.act (o.public.due f.agent.0) (o.told f.agent.0) (differs o f)) o.told;
   home = home_after f o.home;
-  current = current_after f (renews f.act (o.public.due f.agent.0) (o.told f.agent.0)) o.current;
+  current = current_after f (renews f.act (lets_go (o.public.snooped f.agent.0)) (o.public.due f.agent.0) (o.told f.agent.0)) o.current;
 }
 
 -- A FLIT OF THE HOME
@@ -72,12 +73,13 @@ abbrev pub goes : Observed → HomeFlit → Bool
 goes o g = all_below 32 (λ m. m == g.agent.0 || is_beside (told_granted g.grant (o.public.due g.agent.0) (o.told g.agent.0)) (needs_alone g.grant (o.public.due g.agent.0)) (o.told m))
 
 abbrev pub takes_home : Observed → HomeFlit → Bool
-takes_home o g = home_may o.public g && ((not (shows_told g.grant (o.told g.agent.0)) || fits o.home g.shown) && goes o g)
+takes_home o g = home_may o.public g && ((not (shows_told g.grant (o.told g.agent.0)) || fits o.home g.shown)
+    && ((not (fills_told g.grant (o.told g.agent.0)) || o.current) && goes o g))
 
 abbrev pub next_home : Observed → HomeFlit → Observed
 next_home o g = record {
   public = public_granted g o.public;
   told = put g.agent.0 (told_granted g.grant (o.public.due g.agent.0) (o.told g.agent.0)) o.told;
   home = if shows_told g.grant (o.told g.agent.0) then Some g.shown else o.home;
-  current = o.current && not (makes g.grant (o.public.due g.agent.0));
+  current = settles g.grant (o.public.due g.agent.0) || (o.current && not (makes g.grant (o.public.due g.agent.0)));
 }

@@ -15,7 +15,7 @@ use Rattle.chi_observer.specs.declared.flits.Act.{Act}
 use Rattle.chi_observer.specs.declared.flits.Act.TheVariants.{Request, Resend, SnpResp, CompAck, CopyBackWrData, NonCopyBackWrData}
 use Rattle.chi_observer.specs.declared.flits.Grant.{Grant}
 use Rattle.chi_observer.specs.declared.flits.Grant.TheVariants.{RetryAck, Snp, CompData, CompUC, CompSC, CompI, CompDBIDResp}
-use Rattle.chi_observer.specs.Copies.{Copy, Held, copy_of, holds_data, is_dirty, is_clean, same}
+use Rattle.chi_observer.specs.Copies.{Copy, Held, copy_of, holds_data, is_unique, is_dirty, is_clean, same}
 use Rattle.chi_observer.specs.Copies.Copy.{Invalid, SharedClean, UniqueClean, UniqueEmpty, UniqueDirty, SharedDirty, Writing}
 
 -- A CACHE
@@ -119,6 +119,19 @@ left_by SnpRespDataIPD = I
 left_by SnpRespDataSCPD = SC
 left_by SnpRespDataUCPD = UC
 
+-- the snoop lets dirty data be thrown away, and an answer without data does it
+abbrev pub lets_go : Option Snoop → Bool
+lets_go (Some SnpMakeInvalid) = true
+lets_go other = false
+
+abbrev pub answer_drops : Answer → Bool
+answer_drops SnpRespI = true
+answer_drops other = false
+
+abbrev pub throws : Act → Bool → Bool
+throws (SnpResp answer) x = x && answer_drops answer
+throws other x = false
+
 -- and is left, with what SnpResp_UC says of one without data too
 abbrev pub answered : Answer → Copy → Copy
 answered SnpRespUC s = s
@@ -168,18 +181,28 @@ plain s = record { copy = s; cancelled = false }
 -- whether the snoop that it hasn't answered, if the flit is an answer, lets it leave what it says
 abbrev pub allows : Act → Option Snoop → Bool
 allows (SnpResp answer) None = false
-allows (SnpResp answer) (Some snoop) = leaves snoop (left_by answer)
+allows (SnpResp answer) (Some snoop) = leaves snoop (left_by answer) && (not (lets_go (Some snoop)) || answer_drops answer)
 allows other q = true
 
--- the copy that a flit leaves, where its cache may send it
-abbrev pub acts : Act → Due → Held → Option Held
-acts (Request kind) d h = if is_free d h && is_issued_from kind h.copy then Some (plain (issued kind h.copy)) else None
-acts (Resend kind) (Resending asked) h = if same_kind kind asked && not h.cancelled then Some h else None
-acts (SnpResp answer) d h = if is_answered_from answer h.copy then Some (record { copy = answered answer h.copy; cancelled = h.cancelled }) else None
-acts CompAck Acknowledgement h = Some h
-acts (CopyBackWrData form) (WriteData kind) h = if is_copy_back kind && is_written_from form h.copy then Some (record { copy = copy_of (written kind form); cancelled = h.cancelled }) else None
-acts NonCopyBackWrData (WriteData kind) h = if is_whole_write kind && same h.copy Writing then Some (record { copy = Invalid; cancelled = h.cancelled }) else None
-acts a d h = None
+-- nothing may be pending
+abbrev pub may_be_free : Due → Bool
+may_be_free Nothing = true
+may_be_free (Resending kind) = true
+may_be_free other = false
+
+-- the value last stored is lost: a unique copy is thrown away whose agent may have stored to it
+abbrev pub loses : Act → Bool → Due → Copy → Bool
+loses a x d s = throws a x && (may_be_free d && is_unique s)
+
+-- the copy that a flit leaves, where its cache may send it; x: the snoop lets dirty data be thrown away
+abbrev pub acts : Act → Bool → Due → Held → Option Held
+acts (Request kind) x d h = if is_free d h && is_issued_from kind h.copy then Some (plain (issued kind h.copy)) else None
+acts (Resend kind) x (Resending asked) h = if same_kind kind asked && not h.cancelled then Some h else None
+acts (SnpResp answer) x d h = if is_answered_from answer h.copy || (throws (SnpResp answer) x && is_dirty h.copy) then Some (record { copy = answered answer h.copy; cancelled = h.cancelled }) else None
+acts CompAck x Acknowledgement h = Some h
+acts (CopyBackWrData form) x (WriteData kind) h = if is_copy_back kind && is_written_from form h.copy then Some (record { copy = copy_of (written kind form); cancelled = h.cancelled }) else None
+acts NonCopyBackWrData x (WriteData kind) h = if is_whole_write kind && same h.copy Writing then Some (record { copy = Invalid; cancelled = h.cancelled }) else None
+acts a x d h = None
 
 abbrev pub answer_has_data : Answer → Bool
 answer_has_data SnpRespI = false
@@ -337,6 +360,21 @@ abbrev pub needs_duty : Grant → Bool
 needs_duty (CompData form) = form_passes form
 needs_duty other = false
 
+-- a SnpMakeInvalid is sent only while a request of another agent is open whose completion gives the line a new value, or
+-- leaves the home's own
+abbrev pub needs_overwriter : Grant → Bool
+needs_overwriter (Snp snoop) = lets_go (Some snoop)
+needs_overwriter other = false
+
+abbrev pub is_overwriting : Kind → Bool
+is_overwriting MakeUnique = true
+is_overwriting MakeInvalid = true
+is_overwriting WriteUniqueFull = true
+is_overwriting other = false
+
+abbrev pub overwrites : Due → Bool
+overwrites d = is_of is_overwriting d
+
 -- while a CompAck or write data are due at the line nothing is snooped
 abbrev pub needs_quiet : Grant → Bool
 needs_quiet (Snp snoop) = true
@@ -374,6 +412,11 @@ abbrev pub needs_alone : Grant → Due → Bool
 needs_alone CompI d = is_of is_invalidating d
 needs_alone other d = false
 
+-- the completion of a MakeInvalid: the home's own words are the value then, and its agent has no copy
+abbrev pub settles : Grant → Due → Bool
+settles CompI d = is_of (same_kind MakeInvalid) d
+settles other d = false
+
 -- the copy of its agent then: data leave a dirty one as it is, but unique
 abbrev pub copy_filled : State → Copy → Copy
 copy_filled I s = s
@@ -383,6 +426,7 @@ abbrev pub copy_granted : Grant → Due → Copy → Copy
 copy_granted (CompData form) d s = copy_filled form s
 copy_granted CompUC d s = if makes CompUC d then UniqueDirty else (if is_upgraded d then upgraded s else s)
 copy_granted CompDBIDResp d s = if is_written_whole d && not (is_dirty s) then Writing else s
+copy_granted CompI d s = if settles CompI d then Invalid else s
 copy_granted other d s = s
 
 abbrev pub granted : Grant → Due → Held → Held

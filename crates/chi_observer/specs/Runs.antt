@@ -8,14 +8,14 @@ use Rattle.chi_observer.specs.declared.flits.HomeFlit.{HomeFlit}
 use Rattle.chi_observer.specs.Copies.{is_dirty}
 use Rattle.chi_observer.specs.Copies.Copy.{Invalid}
 use Rattle.chi_observer.specs.Judged.{is_judged}
-use Rattle.chi_observer.specs.Rules.{plain, awaits_moment, reads_once, needs_moment}
+use Rattle.chi_observer.specs.Rules.{plain, awaits_moment, reads_once, gives_data, needs_moment}
 use Rattle.chi_observer.specs.Worlds.{Public, World, Coherent, Sends, Drift, Gives, Informed, IsSafe, public_after, public_granted}
 use Rattle.chi_observer.specs.Moments.{is_issue, shown_after, waits_after, has_moment}
 use Rattle.chi_observer.specs.Observed.{Observed, Sound, Meaning, takes, next, takes_home, next_home}
 
 -- THE TRUTH
 abbrev pub quiet_public : Public
-quiet_public = record { due = λ _. Nothing; snooped = λ _. None; duty = false }
+quiet_public = record { due = λ _. Nothing; snooped = λ _. None; duty = false; thrown = false }
 
 abbrev pub public_of : List Flit → Public
 public_of [] = quiet_public
@@ -34,8 +34,12 @@ Behind [] w = After [] w
 Behind (Up f ∷ es) w = (before : World) × After es before × Sends (public_of es) f before w
 Behind (Down g ∷ es) w = (before : World) × After es before × Informed g before × Gives (public_of es) g before w
 
+-- no other copy is dirty, and unless n's own is the home has the value last stored
+abbrev pub IsCleaned : ℕ → World → Type 0
+IsCleaned n w = ((m : ℕ) → m < 32 → m ≢ n → is_dirty (w.state m).copy ≡ false) × (is_dirty (w.state n).copy ≡ false → w.home ≡ w.last)
+
 abbrev pub NoneDirty : List Flit → ℕ → Type 0
-NoneDirty es n = (w : World) → Behind es w → (m : ℕ) → m < 32 → m ≢ n → is_dirty (w.state m).copy ≡ false
+NoneDirty es n = (w : World) → Behind es w → IsCleaned n w
 
 abbrev pub HomeIsLast : List Flit → Type 0
 HomeIsLast es = (w : World) → Behind es w → w.home ≡ w.last
@@ -84,6 +88,17 @@ Accepted [] = ⊤
 Accepted (Up f ∷ es) = Accepted es × (f.agent.0 < 32) × (takes (seen es) f ≡ true) × (is_judged (Up f) ≡ true)
 Accepted (Down g ∷ es) = Accepted es × (g.agent.0 < 32) × (takes_home (seen es) g ≡ true) × (is_judged (Down g) ≡ true) × (has_moment (seen es) (shown_by es) g ≡ true)
 
+-- v was the value last stored right behind a flit since the issue of n's request, on the way to w
+abbrev pub WasValue : (es : List Flit) (n : ℕ) (v : List ℕ) (w : World) → After es w → Type 0
+WasValue [] n v w h = ⊥
+WasValue (Up f ∷ es) n v w h = (h.1.last ≡ v) ⊎ ((is_issue (Up f) n ≡ false) × WasValue es n v h.0 h.2)
+WasValue (Down g ∷ es) n v w h = (h.1.last ≡ v) ⊎ WasValue es n v h.0 h.2
+
+-- the words that complete a ReadOnce
+abbrev pub ReadOnceShowsValue : Type 0
+ReadOnceShowsValue = (es : List Flit) (g : HomeFlit) → Accepted (Down g ∷ es) → gives_data g.grant ≡ true → reads_once ((public_of es).due g.agent.0) ≡ true
+    → (w : World) (h : After es w) → Informed g w → WasValue es g.agent.0 g.shown w h
+
 -- what holds behind an accepted trace
 pub record IsExact (es : List Flit) : Type 0 where
   pub sound : Sound (seen es)
@@ -101,4 +116,4 @@ abbrev pub AcceptedIsExact : Type 0
 AcceptedIsExact = (es : List Flit) → Accepted es → IsExact es
 
 abbrev pub AcceptedIsCoherent : Type 0
-AcceptedIsCoherent = (es : List Flit) → Accepted es → (w : World) → After es w → Coherent w
+AcceptedIsCoherent = (es : List Flit) → Accepted es → (w : World) → After es w → Coherent (public_of es) w

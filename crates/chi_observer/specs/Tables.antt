@@ -14,11 +14,11 @@ use Rattle.chi_observer.specs.declared.flits.Answer.TheVariants.{SnpRespI, SnpRe
 use Rattle.chi_observer.specs.declared.flits.Act.{Act}
 use Rattle.chi_observer.specs.declared.flits.Act.TheVariants.{Request, Resend, SnpResp, CompAck, CopyBackWrData, NonCopyBackWrData}
 use Rattle.chi_observer.specs.declared.flits.Grant.{Grant}
-use Rattle.chi_observer.specs.declared.flits.Grant.TheVariants.{RetryAck, CompData, CompUC, CompDBIDResp}
+use Rattle.chi_observer.specs.declared.flits.Grant.TheVariants.{RetryAck, CompData, CompUC, CompI, CompDBIDResp}
 use Rattle.chi_observer.specs.Copies.{Copy, Held, copy_of, holds_data, is_unique, is_dirty, is_clean, same, compatible}
 use Rattle.chi_observer.specs.Copies.Copy.{Invalid, SharedClean, UniqueClean, UniqueEmpty, UniqueDirty, SharedDirty, Writing}
 use Rattle.chi_observer.specs.declared.told.Told.TheVariants as tolds
-use Rattle.chi_observer.specs.Rules.{is_free, is_copy_back, is_whole_write, same_kind, left_by, written, gives_data, gives_copy, makes, is_upgraded, is_written_whole}
+use Rattle.chi_observer.specs.Rules.{is_free, may_be_free, is_copy_back, is_whole_write, same_kind, left_by, written, gives_data, gives_copy, makes, settles, throws, is_upgraded, is_written_whole}
 
 -- what is told of a copy, and whether a request of its agent that was retried is surely cancelled
 pub record Known : Type 0 where
@@ -53,12 +53,6 @@ may_drift t s = may t s || ((is_unique (strongest t) && same s UniqueDirty) || (
 
 abbrev pub most : Known → Copy
 most k = strongest k.told
-
--- some copy told so may have nothing pending
-abbrev pub may_be_free : Due → Bool
-may_be_free Nothing = true
-may_be_free (Resending kind) = true
-may_be_free other = false
 
 -- what it may be: of a retried request that wasn't cancelled just what was told
 abbrev pub reach : Due → Known → Held → Bool
@@ -206,19 +200,19 @@ abbrev pub fits_form : State → Told → Bool
 fits_form states.I t = may_be_gone t
 fits_form form t = same (strongest t) (copy_of form)
 
--- whether some copy that it may be sends the flit
-abbrev pub fits_told : Act → Due → Known → Bool
-fits_told (Request kind) d k = may_be_free d && fits_issue kind k.told
-fits_told (Resend kind) (Resending asked) k = same_kind kind asked && not k.cancelled
-fits_told (SnpResp answer) d k = fits_answer answer d k.told
-fits_told CompAck Acknowledgement k = true
-fits_told (CopyBackWrData form) (WriteData kind) k = is_copy_back kind && fits_form form k.told
-fits_told NonCopyBackWrData (WriteData kind) k = is_whole_write kind && same (most k) Writing
-fits_told a d k = false
+-- whether some copy that it may be sends the flit; x: the snoop lets dirty data be thrown away
+abbrev pub fits_told : Act → Bool → Due → Known → Bool
+fits_told (Request kind) x d k = may_be_free d && fits_issue kind k.told
+fits_told (Resend kind) x (Resending asked) k = same_kind kind asked && not k.cancelled
+fits_told (SnpResp answer) x d k = fits_answer answer d k.told || (throws (SnpResp answer) x && is_dirty (most k))
+fits_told CompAck x Acknowledgement k = true
+fits_told (CopyBackWrData form) x (WriteData kind) k = is_copy_back kind && fits_form form k.told
+fits_told NonCopyBackWrData x (WriteData kind) k = is_whole_write kind && same (most k) Writing
+fits_told a x d k = false
 
 -- and so that there may have been a store since
-abbrev pub renews : Act → Due → Known → Bool
-renews a d k = may_be_free d && (is_unique (most k) && tells_dirty a)
+abbrev pub renews : Act → Bool → Due → Known → Bool
+renews a x d k = may_be_free d && (is_unique (most k) && (tells_dirty a || throws a x))
 
 -- FLITS OF THE HOME
 abbrev pub told_upgraded : Told → Told
@@ -241,6 +235,7 @@ abbrev pub told_by : Grant → Due → Told → Told
 told_by (CompData form) d t = told_filled form t
 told_by CompUC d t = told_completed d t
 told_by CompDBIDResp d t = if is_written_whole d && not (is_dirty (strongest t)) then tolds.Writing else t
+told_by CompI d t = if settles CompI d then I else t
 told_by other d t = t
 
 -- a request that is retried just now isn't cancelled

@@ -7,14 +7,15 @@ use Rattle.chi_observer.specs.declared.flits.CacheFlit.{CacheFlit}
 use Rattle.chi_observer.specs.declared.flits.HomeFlit.{HomeFlit}
 use Rattle.chi_observer.specs.Copies.{Held, holds_data, is_unique, is_clean, is_dirty, same, compatible}
 use Rattle.chi_observer.specs.Copies.Copy.{Invalid, UniqueDirty}
-use Rattle.chi_observer.specs.Rules.{is_free, is_resending, allows, acts, has_data, writes, tells_words, needs_alone, makes, due_after, snooped_after, passes_duty, is_due, needs_duty, needs_quiet, is_busy, granted, fills, shows, due_granted, snooped_granted}
+use Rattle.chi_observer.specs.Rules.{is_free, is_resending, allows, acts, has_data, writes, tells_words, lets_go, throws, loses, needs_alone, makes, settles, overwrites, needs_overwriter, due_after, snooped_after, passes_duty, is_due, needs_duty, needs_quiet, is_busy, granted, fills, shows, due_granted, snooped_granted}
 
--- what flits say by themselves: requests, snoops without an answer, and whether the home has dirty data that it must
--- write or pass on
+-- what flits say by themselves: requests, snoops without an answer, whether the home has dirty data that it must write or
+-- pass on, and whether a SnpMakeInvalid was answered and no flit has shown or made the line's value since
 pub record Public : Type 0 where
   pub due : ℕ → Due
   pub snooped : ℕ → Option Snoop
   pub duty : Bool
+  pub thrown : Bool
 
 -- each copy (and whether a retried request was cancelled), its words, the value last stored, and the home's own copy
 pub record World : Type 0 where
@@ -27,11 +28,11 @@ abbrev pub Clean : World → Type 0
 Clean w = (n : ℕ) → n < 32 → is_dirty (w.state n).copy ≡ false
 
 -- no other copy beside a unique one, and one dirty owner; each copy with data has the value last stored, and the home
--- has it where nobody is dirty
-pub record Coherent (w : World) : Type 0 where
+-- has it where nobody is dirty and no SnpMakeInvalid was answered since
+pub record Coherent (p : Public) (w : World) : Type 0 where
   pub pairs : (n m : ℕ) → n < 32 → m < 32 → n ≢ m → compatible (w.state n).copy (w.state m).copy ≡ true
   pub words : (n : ℕ) → n < 32 → holds_data (w.state n).copy ≡ true → w.words n ≡ w.last
-  pub memory : Clean w → w.home ≡ w.last
+  pub memory : p.thrown ≡ false → Clean w → w.home ≡ w.last
 
 -- only the copy of n differs
 pub record Elsewhere (n : ℕ) (w w' : World) : Type 0 where
@@ -74,12 +75,12 @@ pub data Drift (p : Public) : World → World → Type 0 where
 
 -- A FLIT OF A CACHE
 -- sent by the copy alone; data are the copy's words, and the home has them then; what is written without a copy is the
--- value last stored
+-- value last stored, and where it is lost it is any
 pub record Sends (p : Public) (f : CacheFlit) (w w' : World) : Type 0 where
   pub allowed : allows f.act (p.snooped f.agent.0) ≡ true
-  pub act : acts f.act (p.due f.agent.0) (w.state f.agent.0) ≡ Some (w'.state f.agent.0)
+  pub act : acts f.act (lets_go (p.snooped f.agent.0)) (p.due f.agent.0) (w.state f.agent.0) ≡ Some (w'.state f.agent.0)
   pub shown : has_data f.act ≡ true → f.shown ≡ w.words f.agent.0
-  pub last : w'.last ≡ (if writes f.act then f.shown else w.last)
+  pub last : loses f.act (lets_go (p.snooped f.agent.0)) (p.due f.agent.0) (w.state f.agent.0).copy ≡ false → w'.last ≡ (if writes f.act then f.shown else w.last)
   pub home : w'.home ≡ (if tells_words f.act then f.shown else w.home)
   pub words : holds_data (w'.state f.agent.0).copy ≡ true → w'.words f.agent.0 ≡ w.words f.agent.0
   pub others : Elsewhere f.agent.0 w w'
@@ -93,6 +94,7 @@ public_after f p = record {
   due = put f.agent.0 (due_after f.act (p.due f.agent.0)) p.due;
   snooped = put f.agent.0 (snooped_after f.act (p.snooped f.agent.0)) p.snooped;
   duty = p.duty || passes_duty f.act;
+  thrown = if tells_words f.act then false else p.thrown || throws f.act (lets_go (p.snooped f.agent.0));
 }
 
 -- A FLIT OF THE HOME
@@ -101,19 +103,33 @@ abbrev pub all_below : ℕ → (ℕ → Bool) → Bool
 all_below zero f = true
 all_below (suc k) f = f k && all_below k f
 
+-- a request of another agent is open for which copies may be thrown away
+abbrev pub is_overwritten : Public → ℕ → Bool
+is_overwritten p n = not (all_below 32 (λ m. m == n || not (overwrites (p.due m))))
+
 -- by what flits say the home may send it
 abbrev pub home_may : Public → HomeFlit → Bool
 home_may p g = is_due g.grant (p.due g.agent.0) (p.snooped g.agent.0)
-    && ((not (needs_duty g.grant) || p.duty) && (not (needs_quiet g.grant) || all_below 32 (λ m. not (is_busy (p.due m)))))
+    && ((not (needs_duty g.grant) || p.duty) && ((not (needs_quiet g.grant) || all_below 32 (λ m. not (is_busy (p.due m))))
+    && (not (needs_overwriter g.grant) || is_overwritten p g.agent.0)))
 
--- what it does; at the completion of a MakeUnique its agent writes any words
+-- what it does; at the completion of a MakeUnique its agent writes any words, and behind that of a MakeInvalid the home's
+-- own are the value
 pub record Gives (p : Public) (g : HomeFlit) (w w' : World) : Type 0 where
   pub state : w'.state g.agent.0 ≡ granted g.grant (p.due g.agent.0) (w.state g.agent.0)
   pub home : w'.home ≡ w.home
   pub words : holds_data (w'.state g.agent.0).copy ≡ true → makes g.grant (p.due g.agent.0) ≡ false → w'.words g.agent.0 ≡ (if fills g.grant (w.state g.agent.0) then g.shown else w.words g.agent.0)
-  pub last : makes g.grant (p.due g.agent.0) ≡ false → w'.last ≡ w.last
+  pub last : makes g.grant (p.due g.agent.0) ≡ false → w'.last ≡ (if settles g.grant (p.due g.agent.0) then w.home else w.last)
   pub made : makes g.grant (p.due g.agent.0) ≡ true → w'.words g.agent.0 ≡ w'.last
   pub others : Elsewhere g.agent.0 w w'
+
+abbrev pub public_granted : HomeFlit → Public → Public
+public_granted g p = record {
+  due = put g.agent.0 (due_granted g.grant (p.due g.agent.0)) p.due;
+  snooped = put g.agent.0 (snooped_granted g.grant (p.snooped g.agent.0)) p.snooped;
+  duty = p.duty && not (needs_duty g.grant);
+  thrown = p.thrown && not (makes g.grant (p.due g.agent.0) || settles g.grant (p.due g.agent.0));
+}
 
 -- no other copy is left
 abbrev pub IsAlone : ℕ → World → Type 0
@@ -121,15 +137,8 @@ IsAlone n w = (m : ℕ) → m < 32 → m ≢ n → same (w.state m).copy Invalid
 
 -- it may be sent and leaves all in order; and no other copy is left where it says so
 abbrev pub IsSafe : Public → HomeFlit → World → Type 0
-IsSafe p g w = (home_may p g ≡ true) × ((w' : World) → Gives p g w w' → Coherent w') × (needs_alone g.grant (p.due g.agent.0) ≡ true → IsAlone g.agent.0 w)
+IsSafe p g w = (home_may p g ≡ true) × ((w' : World) → Gives p g w w' → Coherent (public_granted g p) w') × (needs_alone g.grant (p.due g.agent.0) ≡ true → IsAlone g.agent.0 w)
 
 -- the home sends its own copy
 abbrev pub Informed : HomeFlit → World → Type 0
 Informed g w = shows g.grant (w.state g.agent.0) ≡ true → w.home ≡ g.shown
-
-abbrev pub public_granted : HomeFlit → Public → Public
-public_granted g p = record {
-  due = put g.agent.0 (due_granted g.grant (p.due g.agent.0)) p.due;
-  snooped = put g.agent.0 (snooped_granted g.grant (p.snooped g.agent.0)) p.snooped;
-  duty = p.duty && not (needs_duty g.grant);
-}

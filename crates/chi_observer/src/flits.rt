@@ -111,7 +111,7 @@ pub enum Flit {
 }
 
 impl Act {
-    /// Whether such flits are judged; a line with another is the caller's to set aside.
+    /// Whether such flits are judged: all are.
     /// Source: `docs/OBSERVER.md`, "What is judged".
     pub fn is_judged(self) -> bool
         ensures { result ≡ judges_act self }
@@ -126,7 +126,7 @@ impl Act {
 }
 
 impl Grant {
-    /// Whether such flits are judged; a line with another is the caller's to set aside.
+    /// Whether such flits are judged: all are.
     /// Source: `docs/OBSERVER.md`, "What is judged".
     pub fn is_judged(self) -> bool
         ensures { result ≡ judges_grant self }
@@ -144,7 +144,7 @@ impl Grant {
 }
 
 impl Flit {
-    /// Whether the flit is judged; a line with another is the caller's to set aside.
+    /// Whether the flit is judged: all are.
     /// Source: `docs/OBSERVER.md`, "What is judged".
     pub fn is_judged(self) -> bool
         ensures { result ≡ is_judged self }

@@ -63,7 +63,7 @@ pub enum Snoop {
 }
 
 impl Kind {
-    /// Whether requests of the kind are judged; a line with another is the caller's to set aside.
+    /// Whether requests of the kind are judged: all are.
     /// Source: `docs/OBSERVER.md`, "What is judged".
     pub fn is_judged(self) -> bool
         ensures { result ≡ judges_kind self }
@@ -97,11 +97,11 @@ impl Kind {
 }
 
 impl Snoop {
-    /// Whether the snoop is judged; a line with another is the caller's to set aside.
+    /// Whether the snoop is judged: all are.
     /// Source: `docs/OBSERVER.md`, "What is judged".
     pub fn is_judged(self) -> bool
         ensures { result ≡ judges_snoop self }
     {
-        !matches!(self, Snoop::SnpMakeInvalid)
+        true
     }
 }

@@ -1,6 +1,6 @@
 //! Laws of the rules.
 
-ghost use Rattle.chi_observer.specs.Runs.{LegalIsAccepted, AcceptedIsLegal, AcceptedIsExact, AcceptedIsCoherent};
+ghost use Rattle.chi_observer.specs.Runs.{LegalIsAccepted, AcceptedIsLegal, AcceptedIsExact, AcceptedIsCoherent, ReadOnceShowsValue};
 ghost use Rattle.chi_observer.specs.Laws.{MeaningIsCoherent, MeaningIsClosed, CacheFlitsAreTaken, CacheFlitsLead, CacheFlitsKeepSound, MeaningComes, HomeFlitsKeepSound, HomeFlitsAreSafe, HomeFlitsLead, HomeFlitsArePossible, SafeFlitsAreTaken, MeaningComesByHome};
 
 /// The law that each world that the observer's state stands for is coherent, and hidden steps lead to none that it
@@ -33,12 +33,14 @@ pub fn home_flits()
     ensures comes { MeaningComesByHome }
 {}
 
-/// The law that a whole trace of flits that are judged is accepted exactly where it is legal; that the worlds behind an accepted one are those
-/// that the observer's state stands for; and that all of them are coherent.
+/// The law that a whole trace is accepted exactly where it is legal; that the worlds behind an accepted one are those
+/// that the observer's state stands for; that all of them are coherent; and that the words that complete a ReadOnce were
+/// the value last stored at a moment since its issue, whichever of them is the truth.
 /// Source: `docs/OBSERVER.md`, "What is proved".
 pub fn traces()
     ensures accepted { LegalIsAccepted }
     ensures legal { AcceptedIsLegal }
     ensures exact { AcceptedIsExact }
     ensures coherent { AcceptedIsCoherent }
+    ensures values { ReadOnceShowsValue }
 {}

@@ -3,7 +3,7 @@
 ghost use Rattle.std.specs.Prelude.{◌≡◌, ◌<◌, ◌&&◌, ℕ};
 ghost use Rattle.chi_observer.specs.Moments.{is_issue, may_be_dirty, may_be_stored, opens_moment, tells_of};
 ghost use Rattle.chi_observer.specs.Rules.{is_request};
-ghost use Rattle.chi_observer.specs.Lines.{is_clean_beside, known_of, moment_here, none_dirty_of, none_stored_of, none_waits, shown_here, shown_of, waits_here};
+ghost use Rattle.chi_observer.specs.Lines.{is_clean_beside, is_cleaned_of, known_of, moment_here, none_dirty_of, none_stored_of, none_waits, shown_here, shown_of, waits_here};
 
 use crate::flits::{Act, Flit};
 use crate::observer::AgentSeen;
@@ -63,8 +63,16 @@ fn is_moment(agents: &[AgentSeen; 32], current: bool, agent: usize, flit: Flit) 
     if reads_once(agents[agent].due) {
         current && is_none_stored(agents, flit)
     } else {
-        is_none_dirty(agents, agent, flit)
+        is_cleaned(agents, current, agent, flit)
     }
+}
+
+/// Whether no other agent's copy can be dirty right behind the flit, and the value last stored isn't lost.
+fn is_cleaned(agents: &[AgentSeen; 32], current: bool, agent: usize, flit: Flit) -> bool
+    requires { agent < 32 }
+    ensures { result ≡ is_cleaned_of agents.now current flit agent }
+{
+    (agents[agent].told.is_dirty() || current) && is_none_dirty(agents, agent, flit)
 }
 
 /// Whether no agent has a CleanShared or a ReadOnce open.

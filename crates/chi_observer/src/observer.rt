@@ -1,20 +1,20 @@
 //! The observer of one line.
 
 ghost use Rattle.std.specs.Prelude.{◌≡◌, ◌<◌, ◌&&◌, ◌||◌, IfErr, OnOk, OnErr, Some, false, if◌then◌else◌, is_ok, not, true};
-ghost use Rattle.chi_observer.specs.Rules.{allows, makes, needs_duty, passes_duty};
-ghost use Rattle.chi_observer.specs.Tables.{shows_told, fits_told, is_cancelled, renews, strongest};
+ghost use Rattle.chi_observer.specs.Rules.{allows, lets_go, makes, needs_duty, passes_duty, settles, tells_words, throws};
+ghost use Rattle.chi_observer.specs.Tables.{fills_told, shows_told, fits_told, is_cancelled, renews, strongest};
 ghost use Rattle.chi_observer.specs.Worlds.{all_below, home_may};
 ghost use Rattle.chi_observer.specs.Observed.{differs, fits, goes, takes, takes_home, next, next_home};
 ghost use Rattle.chi_observer.specs.Moments.{after, has_moment};
-ghost use Rattle.chi_observer.specs.Lines.{agent_after, agent_granted, goes_beside, is_given_reason, is_judged_reason, is_quiet, is_reason, is_sent_reason, is_taken, known_of, nothing_watched, observed, stands_beside, takes_flit, watch, watched};
+ghost use Rattle.chi_observer.specs.Lines.{agent_after, agent_granted, goes_beside, is_given_reason, is_judged_reason, is_quiet, is_reason, is_sent_reason, is_taken, known_of, none_overwrites, nothing_watched, observed, stands_beside, takes_flit, watch, watched};
 
 use crate::flits::{Act, CacheFlit, Due, Flit, Grant, HomeFlit};
 use crate::kinds::Snoop;
 use crate::moments::{shown_behind, waits_behind};
 use crate::rules::{
-    allows, due_after, due_granted, gives_copy, gives_data, has_data, is_busy, is_due, makes,
-    needs_alone, needs_duty, needs_moment, needs_quiet, passes_duty, same_kind, snooped_after,
-    snooped_granted, tells_words,
+    allows, due_after, due_granted, gives_copy, gives_data, has_data, is_busy, is_due, lets_go,
+    makes, needs_alone, needs_duty, needs_moment, needs_overwriter, needs_quiet, overwrites,
+    passes_duty, same_kind, settles, snooped_after, snooped_granted, tells_words, throws,
 };
 use crate::told::{Told, answer_tells_dirty, may_be_free, tells_dirty};
 use chi_flit::Data;
@@ -49,6 +49,8 @@ pub struct Observer {
     pub current: bool,
     /// Whether the home has dirty data that it must write or pass on.
     pub duty: bool,
+    /// Whether a SnpMakeInvalid was answered, and no flit has shown or made the line's value since.
+    pub thrown: bool,
     /// Whether a CleanShared or a ReadOnce may be open.
     pub waits: bool,
     /// Of each agent whose CleanShared or ReadOnce is open: there was its moment since its issue. Of a CleanShared one at
@@ -60,7 +62,7 @@ pub struct Observer {
 /// Source: `docs/OBSERVER.md`, "Faults".
 #[derive(Clone, Copy, Debug, PartialEq, Eq)]
 pub enum Reason {
-    /// The observer doesn't judge such flits, as `Flit::is_judged` says. The line is the caller's to set aside.
+    /// The observer doesn't judge such flits, as `Flit::is_judged` says; it judges all.
     NotJudged,
     /// The agent's number is 32 or more.
     NoAgent,
@@ -73,12 +75,16 @@ pub enum Reason {
     /// Since the agent's CleanShared was sent another copy may always have been dirty; or since its ReadOnce was sent the
     /// home may never have had the value last stored.
     NoMoment,
+    /// No request of another agent is open for which copies may be thrown away.
+    NoOverwriter,
     /// The home has no dirty data to pass on.
     NoDuty,
     /// The words are known to be others.
     OtherWords,
     /// Another agent's copy was told to be what doesn't go with the one that this makes.
     OtherCopy,
+    /// The value last stored may have been thrown away.
+    Lost,
 }
 
 impl Observer {
@@ -98,6 +104,7 @@ impl Observer {
             home: None,
             current: true,
             duty: false,
+            thrown: false,
             waits: false,
             shown: [false; 32],
         }
@@ -182,10 +189,11 @@ impl Observer {
     {
         let at = usize::from(flit.agent.0);
         let agent = self.agents[at];
+        let goes = lets_go(agent.snooped);
         if !agent.sends(flit.act) {
             return Err(Reason::NotSent);
         }
-        let renewed = agent.is_renewed(flit.act);
+        let renewed = agent.is_renewed(flit.act, goes);
         let shows = has_data(flit.act);
         let known = may_be(&self.home, &flit.shown);
         if shows && !renewed && self.current && !known {
@@ -195,8 +203,31 @@ impl Observer {
         let tells = tells_words(flit.act);
         self.agents[at] = agent.after(flit.act, differs);
         self.duty = duty_after(self.duty, flit.act);
+        self.thrown = thrown_after(self.thrown, flit.act, goes);
         self.home = shown(tells, flit.shown, self.home);
         self.current = current_from(tells, renewed, self.current);
+        Ok(())
+    }
+
+    /// Whether the home may send the flit by what flits say of requests, answers and its duty.
+    fn may_give(&self, flit: HomeFlit) -> Result<(), Reason>
+        requires { flit.agent.0 < 32 }
+        ensures may { is_ok result ≡ home_may (observed self.now).public flit }
+        ensures reason { IfErr result (λ reason. is_given_reason (observed self.now) flit reason ≡ true) }
+    {
+        let agent = self.agents[usize::from(flit.agent.0)];
+        if !is_due(flit.grant, agent.due, agent.snooped) {
+            return Err(Reason::NotDue);
+        }
+        if needs_duty(flit.grant) && !self.duty {
+            return Err(Reason::NoDuty);
+        }
+        if needs_quiet(flit.grant) && !is_quiet(&self.agents) {
+            return Err(Reason::Busy);
+        }
+        if needs_overwriter(flit.grant) && is_none_overwriting(&self.agents, flit.agent.0) {
+            return Err(Reason::NoOverwriter);
+        }
         Ok(())
     }
 
@@ -212,15 +243,7 @@ impl Observer {
     {
         let at = usize::from(flit.agent.0);
         let agent = self.agents[at];
-        if !is_due(flit.grant, agent.due, agent.snooped) {
-            return Err(Reason::NotDue);
-        }
-        if needs_duty(flit.grant) && !self.duty {
-            return Err(Reason::NoDuty);
-        }
-        if needs_quiet(flit.grant) && !is_quiet(&self.agents) {
-            return Err(Reason::Busy);
-        }
+        self.may_give(flit)?;
         let shows = agent.is_shown(flit.grant);
         if shows && !may_be(&self.home, &flit.shown) {
             return Err(Reason::OtherWords);
@@ -230,8 +253,12 @@ impl Observer {
         if !stands_beside(&self.agents, flit.agent.0, told, alone) {
             return Err(Reason::OtherCopy);
         }
+        if agent.is_filled(flit.grant) && !self.current {
+            return Err(Reason::Lost);
+        }
         self.agents[at] = agent.granted(flit.grant);
         self.duty = duty_granted(self.duty, flit.grant);
+        self.thrown = thrown_granted(self.thrown, flit.grant, agent.due);
         self.current = current_granted(self.current, flit.grant, agent.due);
         self.home = shown(shows, flit.shown, self.home);
         Ok(())
@@ -241,21 +268,24 @@ impl Observer {
 impl AgentSeen {
     /// Whether some copy that the agent may have sends the flit now.
     fn sends(self, act: Act) -> bool
-        ensures { result ≡ (allows act self.snooped && fits_told act self.due (known_of self)) }
+        ensures { result ≡ (allows act self.snooped && fits_told act (lets_go self.snooped) self.due (known_of self)) }
     {
-        allows(act, self.snooped) && self.may_send(act)
+        allows(act, self.snooped) && self.may_send(act, lets_go(self.snooped))
     }
 
-    /// Whether some copy that the agent may have sends the flit, where the snoop allows it.
-    fn may_send(self, act: Act) -> bool
-        ensures { result ≡ fits_told act self.due (known_of self) }
+    /// Whether some copy that the agent may have sends the flit, where the snoop allows it; `goes` says that it lets
+    /// dirty data be thrown away.
+    fn may_send(self, act: Act, goes: bool) -> bool
+        ensures { result ≡ fits_told act goes self.due (known_of self) }
     {
         match (act, self.due) {
             (Act::Request(kind), due) => may_be_free(due) && self.told.may_issue(kind),
             (Act::Resend(kind), Due::Resending(asked)) => {
                 same_kind(kind, asked) && !self.cancelled
             }
-            (Act::SnpResp(answer), due) => self.told.may_answer(answer, due),
+            (Act::SnpResp(answer), due) => {
+                self.told.may_answer(answer, due) || (throws(act, goes) && self.told.is_dirty())
+            }
             (Act::CompAck, Due::Acknowledgement) => true,
             (Act::CopyBackWrData(form), Due::WriteData(kind)) => {
                 kind.is_copy_back() && self.told.may_write(form)
@@ -268,10 +298,10 @@ impl AgentSeen {
     }
 
     /// Whether the flit says that there may have been a store since the last one.
-    fn is_renewed(self, act: Act) -> bool
-        ensures { result ≡ renews act self.due (known_of self) }
+    fn is_renewed(self, act: Act, goes: bool) -> bool
+        ensures { result ≡ renews act goes self.due (known_of self) }
     {
-        may_be_free(self.due) && (self.told.is_unique() && tells_dirty(act))
+        may_be_free(self.due) && (self.told.is_unique() && (tells_dirty(act) || throws(act, goes)))
     }
 
     /// Whether the request that was retried is surely cancelled behind the flit; `differs` says that its words aren't
@@ -287,6 +317,13 @@ impl AgentSeen {
             }
             _ => false,
         }
+    }
+
+    /// Whether the data of a flit of the home to the agent are its copy's words then.
+    fn is_filled(self, grant: Grant) -> bool
+        ensures { result ≡ fills_told grant (known_of self) }
+    {
+        gives_copy(grant) && !self.told.is_dirty()
     }
 
     /// Whether the data of a flit of the home to the agent are the home's own words.
@@ -345,6 +382,20 @@ fn duty_granted(duty: bool, grant: Grant) -> bool
     duty && !needs_duty(grant)
 }
 
+/// Whether a SnpMakeInvalid was answered, and the value isn't shown since, behind a flit of a cache.
+fn thrown_after(thrown: bool, act: Act, goes: bool) -> bool
+    ensures { result ≡ (if tells_words act then false else thrown || throws act goes) }
+{
+    !tells_words(act) && (thrown || throws(act, goes))
+}
+
+/// The same behind a flit of the home.
+fn thrown_granted(thrown: bool, grant: Grant, due: Due) -> bool
+    ensures { result ≡ (thrown && not (makes grant due || settles grant due)) }
+{
+    thrown && !(makes(grant, due) || settles(grant, due))
+}
+
 /// Whether a flit shows words that are surely not the value last stored, but for a store that nobody saw.
 fn shows_others(shows: bool, current: bool, known: bool) -> bool
     ensures { result ≡ (shows && (current && not known)) }
@@ -368,9 +419,9 @@ fn current_from(shows: bool, renewed: bool, current: bool) -> bool
 
 /// Whether the value last stored is the home's behind a flit of the home.
 fn current_granted(current: bool, grant: Grant, due: Due) -> bool
-    ensures { result ≡ (current && not (makes grant due)) }
+    ensures { result ≡ (settles grant due || (current && not (makes grant due))) }
 {
-    current && !makes(grant, due)
+    settles(grant, due) || (current && !makes(grant, due))
 }
 
 /// Whether no agent has a CompAck or write data due.
@@ -382,6 +433,17 @@ fn is_quiet(agents: &[AgentSeen; 32]) -> bool
         quiet = !is_busy(agents[n].due) && quiet;
     }
     quiet
+}
+
+/// Whether no other agent has a request open for which copies may be thrown away.
+fn is_none_overwriting(agents: &[AgentSeen; 32], agent: u8) -> bool
+    ensures { result ≡ none_overwrites agents.now agent }
+{
+    let mut none = true;
+    for n in 0..32u8 {
+        none = (n == agent || !overwrites(agents[usize::from(n)].due)) && none;
+    }
+    none
 }
 
 /// Whether a copy that is told so goes with each that another agent may have; `alone` says that there is to be none.

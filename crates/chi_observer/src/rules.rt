@@ -1,7 +1,7 @@
 //! What flits say by themselves.
 
-ghost use Rattle.std.specs.Prelude.{◌≡◌};
-ghost use Rattle.chi_observer.specs.Rules.{allows, awaits_moment, completes, due_after, due_granted, form_passes, gives_copy, gives_data, has_data, is_busy, is_clean_form, is_completed, is_due, is_shared_form, is_upgraded, is_written_whole, leaves, left_by, makes, needs_alone, needs_duty, needs_moment, needs_quiet, opens_moment, passes_duty, reads_once, same_kind, snooped_after, snooped_granted, tells_words, writes, written};
+ghost use Rattle.std.specs.Prelude.{◌≡◌, ◌&&◌, ◌||◌, Some, not};
+ghost use Rattle.chi_observer.specs.Rules.{allows, answer_drops, awaits_moment, completes, due_after, due_granted, form_passes, gives_copy, gives_data, has_data, is_busy, is_clean_form, is_completed, is_due, is_shared_form, is_upgraded, is_written_whole, leaves, left_by, lets_go, makes, needs_alone, needs_duty, needs_moment, needs_overwriter, needs_quiet, opens_moment, overwrites, passes_duty, reads_once, same_kind, settles, snooped_after, snooped_granted, tells_words, throws, writes, written};
 
 use crate::flits::{Act, Answer, Due, Grant};
 use crate::kinds::{Kind, Snoop};
@@ -51,13 +51,48 @@ pub(crate) fn allows(act: Act, snooped: Option<Snoop>) -> bool
     match act {
         Act::SnpResp(answer) => match snooped {
             None => false,
-            Some(snoop) => leaves(snoop, left_by(answer)),
+            Some(snoop) => lets(snoop, answer),
         },
         Act::Request(_)
         | Act::Resend(_)
         | Act::CompAck
         | Act::CopyBackWrData(_)
         | Act::NonCopyBackWrData => true,
+    }
+}
+
+/// Whether a snoop lets it be answered so.
+fn lets(snoop: Snoop, answer: Answer) -> bool
+    ensures { result ≡ (leaves snoop (left_by answer) && (not (lets_go (Some snoop)) || answer_drops answer)) }
+{
+    leaves(snoop, left_by(answer)) && (!matches!(snoop, Snoop::SnpMakeInvalid) || drops(answer))
+}
+
+/// Whether an answer says that no copy is left, without data.
+fn drops(answer: Answer) -> bool
+    ensures { result ≡ answer_drops answer }
+{
+    matches!(answer, Answer::SnpRespI)
+}
+
+/// Whether the snoop that isn't answered lets dirty data be thrown away.
+pub(crate) fn lets_go(snooped: Option<Snoop>) -> bool
+    ensures { result ≡ lets_go snooped }
+{
+    matches!(snooped, Some(Snoop::SnpMakeInvalid))
+}
+
+/// Whether a flit of a cache throws its copy away; `lets_go` says that the snoop lets it.
+pub(crate) fn throws(act: Act, lets_go: bool) -> bool
+    ensures { result ≡ throws act lets_go }
+{
+    match act {
+        Act::SnpResp(answer) => lets_go && drops(answer),
+        Act::Request(_)
+        | Act::Resend(_)
+        | Act::CompAck
+        | Act::CopyBackWrData(_)
+        | Act::NonCopyBackWrData => false,
     }
 }
 
@@ -390,6 +425,45 @@ pub(crate) fn needs_quiet(grant: Grant) -> bool
     ensures { result ≡ needs_quiet grant }
 {
     matches!(grant, Grant::Snp(_))
+}
+
+/// Whether a flit of the home is sent only while another agent has a request open for which copies may be thrown away.
+pub(crate) fn needs_overwriter(grant: Grant) -> bool
+    ensures { result ≡ needs_overwriter grant }
+{
+    match grant {
+        Grant::Snp(snoop) => lets_go(Some(snoop)),
+        Grant::RetryAck
+        | Grant::CompData(_)
+        | Grant::CompUC
+        | Grant::CompSC
+        | Grant::CompI
+        | Grant::CompDBIDResp => false,
+    }
+}
+
+/// Whether such a request is open.
+pub(crate) fn overwrites(due: Due) -> bool
+    ensures { result ≡ overwrites due }
+{
+    matches!(
+        due,
+        Due::Completion(Kind::MakeUnique | Kind::MakeInvalid | Kind::WriteUniqueFull)
+            | Due::SureCompletion(Kind::MakeUnique | Kind::MakeInvalid | Kind::WriteUniqueFull)
+    )
+}
+
+/// Whether a flit of the home is the completion of a MakeInvalid, behind which the home's own words are the value.
+pub(crate) fn settles(grant: Grant, due: Due) -> bool
+    ensures { result ≡ settles grant due }
+{
+    matches!(
+        (grant, due),
+        (
+            Grant::CompI,
+            Due::Completion(Kind::MakeInvalid) | Due::SureCompletion(Kind::MakeInvalid)
+        )
+    )
 }
 
 /// Whether a CompAck or write data are due.

@@ -2,11 +2,12 @@
 
 ghost use Rattle.std.specs.Prelude.{◌≡◌, ◌&&◌};
 ghost use Rattle.chi_observer.specs.Copies.{compatible, Copy, holds_data, is_clean, is_dirty, is_unique, same};
-ghost use Rattle.chi_observer.specs.Tables.{answer_tells_dirty, fits_answer, fits_form, fits_issue, may_be_free, may_be_gone, strongest, tells_dirty, told_answered, told_as, told_behind, told_by, told_clean, told_completed, told_empty, told_filled, told_issued, told_shared, told_unique, told_upgraded};
+ghost use Rattle.chi_observer.specs.Rules.{may_be_free};
+ghost use Rattle.chi_observer.specs.Tables.{answer_tells_dirty, fits_answer, fits_form, fits_issue, may_be_gone, strongest, tells_dirty, told_answered, told_as, told_behind, told_by, told_clean, told_completed, told_empty, told_filled, told_issued, told_shared, told_unique, told_upgraded};
 
 use crate::flits::{Act, Answer, Due, Grant};
 use crate::kinds::Kind;
-use crate::rules::{is_upgraded, is_written_whole, left_by, makes, written};
+use crate::rules::{is_upgraded, is_written_whole, left_by, makes, settles, written};
 use chi_flit::State;
 
 /// The copies that one may be right behind the last flit that told of it. From there it goes on unseen, by stores and
@@ -284,7 +285,8 @@ impl Told {
             } else {
                 self
             },
-            Grant::RetryAck | Grant::Snp(_) | Grant::CompSC | Grant::CompI => self,
+            Grant::CompI => if settles(grant, due) { Told::I } else { self },
+            Grant::RetryAck | Grant::Snp(_) | Grant::CompSC => self,
         }
     }
 

@@ -13,7 +13,7 @@ use chi_observer::Kind::{
     WriteBackFull, WriteEvictFull, WriteUniqueFull,
 };
 use chi_observer::Snoop::{
-    SnpCleanInvalid, SnpCleanShared, SnpMakeInvalid, SnpOnce, SnpShared, SnpUnique,
+    SnpCleanInvalid, SnpCleanShared, SnpOnce, SnpShared, SnpUnique,
 };
 use chi_observer::{Flit, Reason};
 
@@ -84,12 +84,6 @@ fn a_clean_read_takes_no_duty(rt: HostRuntime) {
     ];
     let found = fault_of(&flits);
     assert!(rt; found == Some((1, Reason::NotDue)), "{found:?}");
-}
-
-#[test]
-fn what_is_not_judged_is_said(rt: HostRuntime) {
-    let snoops = [down(0, Snp(SnpMakeInvalid), NO_DATA)];
-    assert!(rt; fault_of(&snoops) == Some((0, Reason::NotJudged)));
 }
 
 #[test]

@@ -8,4 +8,6 @@ mod kinds;
 #[cfg(test)]
 mod reads;
 #[cfg(test)]
+mod thrown;
+#[cfg(test)]
 mod traces;

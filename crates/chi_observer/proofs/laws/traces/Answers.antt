@@ -1,5 +1,6 @@
 use Rattle.chi_observer.proofs.Runs.{exact, coherent_after}
 use Rattle.chi_observer.proofs.Legal.{accepted, legal}
+use Rattle.chi_observer.proofs.Values.{shows_value}
 use Rattle.chi_observer.proofs.laws.traces.Goals as goal
 
 pub returns-clause-accepted : goal.returns-clause-accepted
@@ -13,3 +14,6 @@ returns-clause-exact c = exact
 
 pub returns-clause-coherent : goal.returns-clause-coherent
 returns-clause-coherent c = coherent_after
+
+pub returns-clause-values : goal.returns-clause-values
+returns-clause-values c = shows_value
