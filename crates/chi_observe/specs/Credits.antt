@@ -4,9 +4,8 @@ use Rattle.std.specs.Prelude.{ℕ, ◌+◌, ◌-◌, ◌==◌, ◌&&◌, min, na
 use Rattle.std.specs.Map.{lookup}
 use Rattle.std.specs.Option.{unwrap_or}
 use Rattle.indexmap.specs.IndexMap.{insert_entry}
-use Rattle.chi_flit.specs.Credit.{credit_number, credit_type_of}
-use Rattle.chi_flit.specs.declared.credit.Profile.TheVariants as profiles
-use Rattle.chi_flit.specs.declared.kind.Kind.{Kind}
+use Rattle.chi_observer.specs.declared.kinds.Kind.{Kind}
+use Rattle.chi_observer.specs.declared.kinds.Kind.TheVariants as kinds
 use Rattle.chi_trace.specs.declared.fields.PcrdType.{PcrdType}
 use Rattle.chi_observe.specs.declared.credits.Account.{Account}
 use Rattle.chi_observe.specs.declared.credits.AccountNumbers.{AccountNumbers}
@@ -17,10 +16,35 @@ use Rattle.chi_observe.specs.declared.credits.CreditTypes.{CreditTypes}
 use Rattle.chi_observe.specs.declared.credits.CreditTypes.TheVariants.{Two, Four, Any}
 use Rattle.chi_observe.specs.declared.ids.Sides.{Sides}
 
+-- the type of each kind, where there are two and where there are four
+abbrev pub type_of_two : Kind → ℕ
+type_of_two kinds.WriteBackFull = 1
+type_of_two kinds.WriteCleanFull = 1
+type_of_two kinds.WriteEvictFull = 1
+type_of_two kinds.WriteUniqueFull = 1
+type_of_two other = 0
+
+abbrev pub type_of_four : Kind → ℕ
+type_of_four kinds.ReadNotSharedDirty = 0
+type_of_four kinds.ReadShared = 0
+type_of_four kinds.ReadClean = 0
+type_of_four kinds.ReadOnce = 0
+type_of_four kinds.WriteBackFull = 1
+type_of_four kinds.WriteCleanFull = 1
+type_of_four kinds.WriteEvictFull = 1
+type_of_four kinds.WriteUniqueFull = 1
+type_of_four kinds.ReadUnique = 2
+type_of_four kinds.CleanUnique = 2
+type_of_four kinds.MakeUnique = 2
+type_of_four kinds.CleanShared = 2
+type_of_four kinds.CleanInvalid = 2
+type_of_four kinds.MakeInvalid = 2
+type_of_four kinds.Evict = 3
+
 -- the type that a RetryAck has to name, by the kind of its request, if that isn't open
 abbrev pub wanted_of : CreditTypes → Kind → Option PcrdType
-wanted_of Two kind = Some (record { 0 = credit_number (credit_type_of profiles.Two kind) })
-wanted_of Four kind = Some (record { 0 = credit_number (credit_type_of profiles.Four kind) })
+wanted_of Two kind = Some (record { 0 = type_of_two kind })
+wanted_of Four kind = Some (record { 0 = type_of_four kind })
 wanted_of Any kind = None
 
 -- an account's key as numbers

@@ -1,11 +1,15 @@
 -- What a flit of a line tells its observer (docs/OBSERVER.md, "A trace of many lines").
-use Rattle.std.specs.Prelude.{Option, Some, None, if◌then◌else◌}
+use Rattle.std.specs.Prelude.{ℕ, List, Option, Some, None, if◌then◌else◌, replicate}
 use Rattle.chi_flit.specs.declared.numbers.Agent.{Agent}
 use Rattle.chi_observer.specs.declared.flits.Flit.{Flit}
 use Rattle.chi_observer.specs.declared.flits.Flit.TheVariants.{Up, Down}
 use Rattle.chi_observer.specs.Judged.{is_judged}
 use Rattle.chi_observe.specs.declared.events.Tells.{Tells}
-use Rattle.chi_observe.specs.declared.events.Tells.TheVariants.{Sent, Given, Unjudged, NoForm}
+use Rattle.chi_observe.specs.declared.lines.LineNews.{LineNews}
+use Rattle.chi_observe.specs.declared.lines.LineNews.TheVariants as news
+use Rattle.chi_observe.specs.declared.steps.Part.{Part}
+use Rattle.chi_observe.specs.declared.steps.Part.TheVariants as parts
+use Rattle.chi_observe.specs.declared.events.Tells.TheVariants.{Sent, Given, NoForm}
 
 -- a flit, if an observer judges it
 abbrev pub judged : Flit → Option Flit
@@ -15,9 +19,30 @@ judged flit = if is_judged flit then Some flit else None
 abbrev pub told_by : Tells → Agent → Option Flit
 told_by (Sent act shown) agent = judged (Up (record { agent = agent; act = act; shown = shown }))
 told_by (Given grant shown) agent = judged (Down (record { agent = agent; grant = grant; shown = shown }))
-told_by Unjudged agent = None
 told_by (NoForm resp) agent = None
+
+-- its words; of one that has none 0
+abbrev pub words_of : Tells → List ℕ
+words_of (Sent act words) = words
+words_of (Given grant words) = words
+words_of (NoForm resp) = replicate 8 0
+
+abbrev pub with_words : Tells → List ℕ → Tells
+with_words (Sent act other) words = Sent act words
+with_words (Given grant other) words = Given grant words
+with_words (NoForm resp) words = NoForm resp
 
 abbrev pub flit_by : Tells → Option Agent → Option Flit
 flit_by tells None = None
 flit_by tells (Some agent) = told_by tells agent
+
+-- what its line is told of: data that come in beats are told at their last one; those that aren't judged at their first
+abbrev pub begun_by : Option Flit → LineNews
+begun_by None = news.Flit None
+begun_by (Some flit) = news.Begun
+
+abbrev pub news_of : Tells → Part → Option Agent → LineNews
+news_of tells parts.Whole agent = news.Flit (flit_by tells agent)
+news_of tells parts.First agent = begun_by (flit_by tells agent)
+news_of tells parts.Further agent = news.Flit (flit_by tells agent)
+news_of tells (parts.Last told) agent = news.Ended (flit_by told agent)

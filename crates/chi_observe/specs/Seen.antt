@@ -1,12 +1,18 @@
 -- What each line of a trace is to a watch, a row for each opcode (docs/OBSERVER.md, "A trace of many lines").
-use Rattle.std.specs.Prelude.{ℕ, ◌/◌, Bool, List, Option, Some, None, if◌then◌else◌, option_map, replicate}
-use Rattle.std.specs.List.{list_all}
+use Rattle.std.specs.Prelude.{ℕ, ◌/◌, List, Option, Some, None, replicate}
 use Rattle.chi_flit.specs.declared.kind.Kind.{Kind}
 use Rattle.chi_flit.specs.declared.kind.Kind.TheVariants as kinds
 use Rattle.chi_flit.specs.declared.snoop.Snoop.{Snoop}
 use Rattle.chi_flit.specs.declared.snoop.Snoop.TheVariants as snoops
 use Rattle.chi_flit.specs.declared.state.State.{State}
 use Rattle.chi_flit.specs.declared.state.State.TheVariants as states
+use Rattle.chi_trace.specs.declared.any_flits.AnyFlit.{AnyFlit}
+use Rattle.chi_trace.specs.declared.any_flits.AnyFlit.TheVariants as any
+use Rattle.chi_trace.specs.declared.any_flits.AnySeen.{AnySeen}
+use Rattle.chi_trace.specs.declared.any_opcodes.OtherKind.{OtherKind}
+use Rattle.chi_trace.specs.declared.any_opcodes.OtherKind.TheVariants as others
+use Rattle.chi_trace.specs.declared.any_opcodes.OtherSnoop.{OtherSnoop}
+use Rattle.chi_trace.specs.declared.any_opcodes.OtherSnoop.TheVariants as other_snoops
 use Rattle.chi_trace.specs.declared.fields.Address.{Address}
 use Rattle.chi_trace.specs.declared.fields.Beat.{Beat}
 use Rattle.chi_trace.specs.declared.fields.DbId.{DbId}
@@ -17,7 +23,8 @@ use Rattle.chi_trace.specs.declared.fields.Resp.TheVariants.{I, SC, UC, UD, SD, 
 use Rattle.chi_trace.specs.declared.fields.TxnId.{TxnId}
 use Rattle.chi_trace.specs.declared.flits.Flit.{Flit}
 use Rattle.chi_trace.specs.declared.flits.Flit.TheVariants as flits
-use Rattle.chi_trace.specs.declared.flits.Seen.{Seen}
+use Rattle.chi_trace.specs.declared.flits.RequestFields.{RequestFields}
+use Rattle.chi_trace.specs.declared.flits.SnoopFields.{SnoopFields}
 use Rattle.chi_trace.specs.declared.flits.Transaction.{Transaction}
 use Rattle.chi_observer.specs.declared.kinds.Kind as told_kinds
 use Rattle.chi_observer.specs.declared.kinds.Kind.TheVariants as told_kind
@@ -30,7 +37,7 @@ use Rattle.chi_observer.specs.declared.flits.Grant.TheVariants as grants
 use Rattle.chi_observe.specs.declared.events.Event.{Event}
 use Rattle.chi_observe.specs.declared.events.Event.TheVariants as events
 use Rattle.chi_observe.specs.declared.events.Tells.{Tells}
-use Rattle.chi_observe.specs.declared.events.Tells.TheVariants.{Sent, Given, Unjudged, NoForm}
+use Rattle.chi_observe.specs.declared.events.Tells.TheVariants.{Sent, Given, NoForm}
 use Rattle.chi_observe.specs.declared.ids.CacheLine.{CacheLine}
 use Rattle.chi_observe.specs.declared.steps.IdStep.{IdStep}
 use Rattle.chi_observe.specs.declared.steps.IdStep.TheVariants as steps
@@ -59,18 +66,37 @@ snoop_named snoops.SnpNotSharedDirty = told_snoop.SnpNotSharedDirty
 snoop_named snoops.SnpUnique = told_snoop.SnpUnique
 snoop_named snoops.SnpCleanInvalid = told_snoop.SnpCleanInvalid
 
+-- kinds and snoops that the profile hasn't
+abbrev pub other_kind_named : OtherKind → told_kinds.Kind
+other_kind_named others.ReadClean = told_kind.ReadClean
+other_kind_named others.ReadOnce = told_kind.ReadOnce
+other_kind_named others.MakeUnique = told_kind.MakeUnique
+other_kind_named others.CleanShared = told_kind.CleanShared
+other_kind_named others.CleanInvalid = told_kind.CleanInvalid
+other_kind_named others.MakeInvalid = told_kind.MakeInvalid
+other_kind_named others.WriteUniqueFull = told_kind.WriteUniqueFull
+
+abbrev pub other_snoop_named : OtherSnoop → told_snoops.Snoop
+other_snoop_named other_snoops.SnpOnce = told_snoop.SnpOnce
+other_snoop_named other_snoops.SnpClean = told_snoop.SnpClean
+other_snoop_named other_snoops.SnpCleanShared = told_snoop.SnpCleanShared
+other_snoop_named other_snoops.SnpMakeInvalid = told_snoop.SnpMakeInvalid
+
 -- a flit without data
 abbrev pub no_data : List ℕ
 no_data = replicate 8 0
 
 -- a request that spends a credit is sent again
-abbrev pub request_step : Kind → Option PcrdType → TxnId → Address → IdStep
-request_step kind None txn address = steps.Attempt txn kind (line_of address)
-request_step kind (Some pcrd) txn address = steps.Again txn kind (line_of address) pcrd
+abbrev pub step_by : told_kinds.Kind → Option PcrdType → TxnId → CacheLine → IdStep
+step_by kind None txn line = steps.Attempt txn kind line
+step_by kind (Some pcrd) txn line = steps.Again txn kind line pcrd
 
-abbrev pub request_told : Kind → Option PcrdType → Tells
-request_told kind None = Sent (acts.Request (kind_named kind)) no_data
-request_told kind (Some pcrd) = Sent (acts.Resend (kind_named kind)) no_data
+abbrev pub request_step : told_kinds.Kind → RequestFields → IdStep
+request_step kind fields = step_by kind fields.spends fields.txn (line_of fields.address)
+
+abbrev pub request_told : told_kinds.Kind → Option PcrdType → Tells
+request_told kind None = Sent (acts.Request kind) no_data
+request_told kind (Some pcrd) = Sent (acts.Resend kind) no_data
 
 -- RESP of each opcode; no flit of it has another one
 abbrev pub completion_told : Resp → Tells
@@ -84,41 +110,42 @@ answer_told SC = Sent (acts.SnpResp answers.SnpRespSC) no_data
 answer_told UC = Sent (acts.SnpResp answers.SnpRespUC) no_data
 answer_told resp = NoForm resp
 
--- data that lack words aren't judged
-abbrev pub is_whole : Beat → Bool
-is_whole beat = list_all (λ there. there) beat.there
+-- data of a cache, and of the home
+abbrev pub data_sent : Beat → Act → Tells
+data_sent beat act = Sent act beat.words
 
-abbrev pub whole_sent : Beat → Act → Tells
-whole_sent beat act = if is_whole beat then Sent act beat.words else Unjudged
-
-abbrev pub whole_given : Beat → State → Tells
-whole_given beat state = if is_whole beat then Given (grants.CompData state) beat.words else Unjudged
+abbrev pub data_given : Beat → State → Tells
+data_given beat state = Given (grants.CompData state) beat.words
 
 abbrev pub answer_data_told : Resp → Beat → Tells
-answer_data_told I beat = whole_sent beat (acts.SnpResp answers.SnpRespDataI)
-answer_data_told SC beat = whole_sent beat (acts.SnpResp answers.SnpRespDataSC)
-answer_data_told UC beat = whole_sent beat (acts.SnpResp answers.SnpRespDataUC)
-answer_data_told UD beat = whole_sent beat (acts.SnpResp answers.SnpRespDataUD)
-answer_data_told SD beat = whole_sent beat (acts.SnpResp answers.SnpRespDataSD)
-answer_data_told IPD beat = whole_sent beat (acts.SnpResp answers.SnpRespDataIPD)
-answer_data_told SCPD beat = whole_sent beat (acts.SnpResp answers.SnpRespDataSCPD)
-answer_data_told UCPD beat = whole_sent beat (acts.SnpResp answers.SnpRespDataUCPD)
+answer_data_told I beat = data_sent beat (acts.SnpResp answers.SnpRespDataI)
+answer_data_told SC beat = data_sent beat (acts.SnpResp answers.SnpRespDataSC)
+answer_data_told UC beat = data_sent beat (acts.SnpResp answers.SnpRespDataUC)
+answer_data_told UD beat = data_sent beat (acts.SnpResp answers.SnpRespDataUD)
+answer_data_told SD beat = data_sent beat (acts.SnpResp answers.SnpRespDataSD)
+answer_data_told IPD beat = data_sent beat (acts.SnpResp answers.SnpRespDataIPD)
+answer_data_told SCPD beat = data_sent beat (acts.SnpResp answers.SnpRespDataSCPD)
+answer_data_told UCPD beat = data_sent beat (acts.SnpResp answers.SnpRespDataUCPD)
 answer_data_told resp beat = NoForm resp
 
 abbrev pub written_told : Resp → Beat → Tells
-written_told I beat = whole_sent beat (acts.CopyBackWrData states.I)
-written_told SC beat = whole_sent beat (acts.CopyBackWrData states.SC)
-written_told UC beat = whole_sent beat (acts.CopyBackWrData states.UC)
-written_told UDPD beat = whole_sent beat (acts.CopyBackWrData states.UD)
-written_told SDPD beat = whole_sent beat (acts.CopyBackWrData states.SD)
+written_told I beat = data_sent beat (acts.CopyBackWrData states.I)
+written_told SC beat = data_sent beat (acts.CopyBackWrData states.SC)
+written_told UC beat = data_sent beat (acts.CopyBackWrData states.UC)
+written_told UDPD beat = data_sent beat (acts.CopyBackWrData states.UD)
+written_told SDPD beat = data_sent beat (acts.CopyBackWrData states.SD)
 written_told resp beat = NoForm resp
 
+abbrev pub whole_written_told : Resp → Beat → Tells
+whole_written_told I beat = data_sent beat acts.NonCopyBackWrData
+whole_written_told resp beat = NoForm resp
+
 abbrev pub read_told : Resp → Beat → Tells
-read_told I beat = whole_given beat states.I
-read_told SC beat = whole_given beat states.SC
-read_told UC beat = whole_given beat states.UC
-read_told UDPD beat = whole_given beat states.UD
-read_told SDPD beat = whole_given beat states.SD
+read_told I beat = data_given beat states.I
+read_told SC beat = data_given beat states.SC
+read_told UC beat = data_given beat states.UC
+read_told UDPD beat = data_given beat states.UD
+read_told SDPD beat = data_given beat states.SD
 read_told resp beat = NoForm resp
 
 -- the TxnID of CompAck and write data is the DBID
@@ -126,28 +153,47 @@ abbrev pub named_buffer : Transaction → DbId
 named_buffer transaction = record { 0 = transaction.txn.0 }
 
 -- from a requester to the home, and from the home to a requester
-abbrev pub up : Seen → NodeId → Option Address → IdStep → Tells → Event
+abbrev pub up : AnySeen → NodeId → Option Address → IdStep → Tells → Event
 up seen home at step tells = events.Line (record { number = seen.line; sides = record { requester = seen.source; home = home }; step = step; at = line_named at; tells = tells })
 
-abbrev pub down : Seen → NodeId → Option Address → IdStep → Tells → Event
+abbrev pub down : AnySeen → NodeId → Option Address → IdStep → Tells → Event
 down seen requester at step tells = events.Line (record { number = seen.line; sides = record { requester = requester; home = seen.source }; step = step; at = line_named at; tells = tells })
 
-abbrev pub event_by : Seen → Flit → Event
-event_by s (flits.Request kind spends target txn address) = up s target None (request_step kind spends txn address) (request_told kind spends)
-event_by s (flits.PCrdReturn pcrd target) = events.Returned (record { requester = s.source; home = target }) pcrd
-event_by s (flits.Snoop snoop target txn address) = down s target None (steps.Snoop txn snoop (line_of address)) (Given (grants.Snp (snoop_named snoop)) no_data)
-event_by s (flits.RetryAck pcrd t) = down s t.target t.address (steps.RetryAck t.txn pcrd) (Given grants.RetryAck no_data)
-event_by s (flits.CompUC dbid t) = down s t.target t.address (steps.Complete t.txn (Some dbid)) (Given grants.CompUC no_data)
-event_by s (flits.Comp resp t) = down s t.target t.address (steps.Complete t.txn None) (completion_told resp)
-event_by s (flits.CompDBIDResp dbid t) = down s t.target t.address (steps.Complete t.txn (Some dbid)) (Given grants.CompDBIDResp no_data)
-event_by s (flits.PCrdGrant pcrd target) = events.Granted (record { requester = target; home = s.source }) pcrd
-event_by s (flits.SnpResp resp t) = up s t.target t.address (steps.Answer t.txn) (answer_told resp)
-event_by s (flits.CompAck t) = up s t.target t.address (steps.Acknowledge (named_buffer t)) (Sent acts.CompAck no_data)
-event_by s (flits.CompData resp dbid t beat) = down s t.target t.address (steps.ReadData t.txn dbid beat.there) (read_told resp beat)
-event_by s (flits.SnpRespData resp t beat) = up s t.target t.address (steps.AnswerData t.txn beat.there) (answer_data_told resp beat)
-event_by s (flits.CopyBackWrData resp t beat) = up s t.target t.address (steps.WriteData (named_buffer t) beat.there) (written_told resp beat)
-event_by s (flits.Load address value) = events.Access
-event_by s (flits.Store address value) = events.Access
+abbrev pub request_event : AnySeen → told_kinds.Kind → RequestFields → Event
+request_event s kind fields = up s fields.target None (request_step kind fields) (request_told kind fields.spends)
 
-abbrev pub event_of : Seen → Event
+abbrev pub snoop_event : AnySeen → told_snoops.Snoop → SnoopFields → Event
+snoop_event s snoop fields = down s fields.target None (steps.Snoop fields.txn snoop (line_of fields.address)) (Given (grants.Snp snoop) no_data)
+
+abbrev pub read_event : AnySeen → Transaction → Resp → Option DbId → Beat → Event
+read_event s t resp dbid beat = down s t.target t.address (steps.ReadData t.txn dbid beat.there) (read_told resp beat)
+
+-- a flit of the profile
+abbrev pub profile_event : AnySeen → Flit → Event
+profile_event s (flits.Request kind spends target txn address) = request_event s (kind_named kind) (record { spends = spends; target = target; txn = txn; address = address })
+profile_event s (flits.PCrdReturn pcrd target) = events.Returned (record { requester = s.source; home = target }) pcrd
+profile_event s (flits.Snoop snoop target txn address) = snoop_event s (snoop_named snoop) (record { target = target; txn = txn; address = address })
+profile_event s (flits.RetryAck pcrd t) = down s t.target t.address (steps.RetryAck t.txn pcrd) (Given grants.RetryAck no_data)
+profile_event s (flits.CompUC dbid t) = down s t.target t.address (steps.CompleteWith t.txn (Some dbid)) (Given grants.CompUC no_data)
+profile_event s (flits.Comp resp t) = down s t.target t.address (steps.Complete t.txn) (completion_told resp)
+profile_event s (flits.CompDBIDResp dbid t) = down s t.target t.address (steps.CompleteWith t.txn (Some dbid)) (Given grants.CompDBIDResp no_data)
+profile_event s (flits.PCrdGrant pcrd target) = events.Granted (record { requester = target; home = s.source }) pcrd
+profile_event s (flits.SnpResp resp t) = up s t.target t.address (steps.Answer t.txn) (answer_told resp)
+profile_event s (flits.CompAck t) = up s t.target t.address (steps.Acknowledge (named_buffer t)) (Sent acts.CompAck no_data)
+profile_event s (flits.CompData resp dbid t beat) = read_event s t resp (Some dbid) beat
+profile_event s (flits.SnpRespData resp t beat) = up s t.target t.address (steps.AnswerData t.txn beat.there) (answer_data_told resp beat)
+profile_event s (flits.CopyBackWrData resp t beat) = up s t.target t.address (steps.WriteData (named_buffer t) beat.there) (written_told resp beat)
+profile_event s (flits.Load address value) = events.Access
+profile_event s (flits.Store address value) = events.Access
+
+-- and any other
+abbrev pub event_by : AnySeen → AnyFlit → Event
+event_by s (any.Profile flit) = profile_event s flit
+event_by s (any.Request kind fields) = request_event s (other_kind_named kind) fields
+event_by s (any.Snoop snoop fields) = snoop_event s (other_snoop_named snoop) fields
+event_by s (any.CompUC t) = down s t.target t.address (steps.CompleteWith t.txn None) (Given grants.CompUC no_data)
+event_by s (any.CompData resp t beat) = read_event s t resp None beat
+event_by s (any.NonCopyBackWrData resp t beat) = up s t.target t.address (steps.WriteData (named_buffer t) beat.there) (whole_written_told resp beat)
+
+abbrev pub event_of : AnySeen → Event
 event_of seen = event_by seen seen.flit

@@ -1,9 +1,9 @@
 -- What each flit does to ids and credits, or why they don't allow it (docs/OBSERVER.md, "Ids and credits").
-use Rattle.std.specs.Prelude.{ℕ, ◌==◌, ◌&&◌, ◌||◌, Bool, true, false, not, List, [], ◌∷◌, Option, Some, None, Result, Ok, Err, if◌then◌else◌, ok_or, replicate}
+use Rattle.std.specs.Prelude.{ℕ, ◌==◌, ◌&&◌, ◌||◌, Bool, true, false, not, List, [], ◌∷◌, Option, Some, None, Result, Ok, Err, if◌then◌else◌, ok_or, replicate, unwrap_or}
 use Rattle.std.specs.List.{count_by, list_any, slice_index_or}
 use Rattle.std.specs.Map.{values_of}
-use Rattle.chi_flit.specs.declared.kind.Kind.{Kind}
-use Rattle.chi_flit.specs.declared.snoop.Snoop.{Snoop}
+use Rattle.chi_observer.specs.declared.kinds.Kind.{Kind}
+use Rattle.chi_observer.specs.declared.kinds.Snoop.{Snoop}
 use Rattle.chi_trace.specs.declared.fields.DbId.{DbId}
 use Rattle.chi_trace.specs.declared.fields.PcrdType.{PcrdType}
 use Rattle.chi_trace.specs.declared.fields.TxnId.{TxnId}
@@ -21,15 +21,19 @@ use Rattle.chi_observe.specs.declared.ids.Purpose.{Purpose}
 use Rattle.chi_observe.specs.declared.ids.Purpose.TheVariants as purposes
 use Rattle.chi_observe.specs.declared.ids.Sides.{Sides}
 use Rattle.chi_observe.specs.declared.reasons.IdReason.{IdReason}
-use Rattle.chi_observe.specs.declared.reasons.IdReason.TheVariants.{InUse, NotOpen, Unfinished, WordAgain, WrongAddress, NotRetryable, OtherType, NothingRetried, NoCredit}
+use Rattle.chi_observe.specs.declared.reasons.IdReason.TheVariants.{InUse, NotOpen, Unfinished, WordAgain, WrongAddress, NotRetryable, OtherType, NothingRetried, NoCredit, NoDbid}
+use Rattle.chi_observe.specs.declared.events.Tells.{Tells}
 use Rattle.chi_observe.specs.declared.steps.Change.{Change}
+use Rattle.chi_observe.specs.declared.steps.Part.{Part}
+use Rattle.chi_observe.specs.declared.steps.Part.TheVariants as parts
 use Rattle.chi_observe.specs.declared.steps.IdStep.{IdStep}
-use Rattle.chi_observe.specs.declared.steps.IdStep.TheVariants.{Attempt, Again, RetryAck, Complete, ReadData, Answer, AnswerData, Acknowledge, WriteData}
+use Rattle.chi_observe.specs.declared.steps.IdStep.TheVariants.{Attempt, Again, RetryAck, Complete, CompleteWith, ReadData, Answer, AnswerData, Acknowledge, WriteData}
 use Rattle.chi_observe.specs.declared.steps.IdStep.TheVariants as steps
 use Rattle.chi_observe.specs.declared.steps.Tables.{Tables}
 use Rattle.chi_observe.specs.declared.steps.WatchOptions.{WatchOptions}
 use Rattle.chi_observe.specs.Credits.{account_of, booked_all, may_grant, unused_of, wanted_of}
-use Rattle.chi_observe.specs.Ids.{id_of, opened_id, with_id, without}
+use Rattle.chi_observe.specs.Events.{with_words, words_of}
+use Rattle.chi_observe.specs.Ids.{id_of, is_kept_for, opened_id, with_id, without}
 use Rattle.chi_observe.specs.Reasons.{◌>>=◌}
 
 -- what is open: the ids and the accounts
@@ -42,7 +46,7 @@ table_of tables = record { ids = tables.ids.now.entries; accounts = tables.accou
 
 -- a flit that neither frees, opens nor books
 abbrev pub plain_change : CacheLine → Change
-plain_change line = record { line = line; frees = None; keeps = None; opens = None; books = None; further = false }
+plain_change line = record { line = line; frees = None; keeps = None; opens = None; books = None; part = parts.Whole }
 
 -- to open an id that is in use is a fault
 abbrev pub unused : IdKey → Option OpenId → Result IdKey IdReason
@@ -117,10 +121,15 @@ retried options table sides txn pcrd at = do
   right ← right_type pcrd (wanted_of options.types kind)
   Ok (record (plain_change found.line) { frees = Some (keys.Request sides txn); opens = Some (waiting_of found sides right); books = Some (booking_of table sides right events.Retried) })
 
--- A completion frees the request, and may open a DBID.
+-- A completion frees the request, and opens a DBID where a CompAck or write data follow.
+abbrev pub buffer_of : Table → Sides → OpenId → Option DbId → Result (Option OpenId) IdReason
+buffer_of table sides found dbid = do
+  named ← ok_or dbid (NoDbid found.key)
+  key ← new_id table (keys.Buffer sides named)
+  Ok (Some (opened_id key found.line found.purpose))
+
 abbrev pub new_buffer : Table → Sides → OpenId → Option DbId → Result (Option OpenId) IdReason
-new_buffer table sides found None = Ok None
-new_buffer table sides found (Some dbid) = new_id table (keys.Buffer sides dbid) >>= λ key. Ok (Some (opened_id key found.line found.purpose))
+new_buffer table sides found dbid = if is_kept_for found.purpose then buffer_of table sides found dbid else Ok None
 
 unfoldable pub completed : Table → Sides → TxnId → Option DbId → Option CacheLine → Result Change IdReason
 completed table sides txn dbid at = do
@@ -128,7 +137,7 @@ completed table sides txn dbid at = do
   opens ← new_buffer table sides found dbid
   Ok (record (plain_change found.line) { frees = Some (keys.Request sides txn); opens = opens })
 
--- A CompAck and an answer without data free their ids.
+-- A completion that opens no DBID, a CompAck and an answer without data free their ids.
 abbrev pub acknowledged : Table → IdKey → Option CacheLine → Result Change IdReason
 acknowledged table key at = freed table key at >>= λ found. Ok (record (plain_change found.line) { frees = Some key })
 
@@ -161,31 +170,58 @@ left_of lacks there =
 abbrev pub lacks_some : List Bool → Bool
 lacks_some left = list_any (λ lacks. lacks) left
 
-abbrev pub joined_by : OpenId → List Bool → Bool → Change
-joined_by found left further =
-    if lacks_some left then record (plain_change found.line) { keeps = Some (record found { lacks = Some left }); further = further }
-    else record (plain_change found.line) { frees = Some found.key; further = further }
+abbrev pub word_with : ℕ → ℕ → Bool → ℕ
+word_with old new there = if there then new else old
 
-abbrev pub joined : OpenId → List Bool → List Bool → Bool → Change
-joined found lacks there further = joined_by found (left_of lacks there) further
+abbrev pub word_behind : List ℕ → List ℕ → List Bool → ℕ → ℕ
+word_behind old new there n = word_with (slice_index_or old n 0) (slice_index_or new n 0) (word_at there n)
 
-abbrev pub next_beat : IdKey → OpenId → List Bool → Option (List Bool) → Result Change IdReason
-next_beat key found there None = Ok (joined found (replicate 8 true) there false)
-next_beat key found there (Some lacks) = if is_again lacks there then Err (WordAgain key) else Ok (joined found lacks there true)
+abbrev pub words_with : List ℕ → List ℕ → List Bool → List ℕ
+words_with old new there =
+    word_behind old new there 0 ∷ word_behind old new there 1 ∷ word_behind old new there 2 ∷ word_behind old new there 3
+    ∷ word_behind old new there 4 ∷ word_behind old new there 5 ∷ word_behind old new there 6 ∷ word_behind old new there 7 ∷ []
 
-abbrev pub beat_of : Table → IdKey → List Bool → Option CacheLine → Result Change IdReason
-beat_of table key there at = named table key at >>= λ found. next_beat key found there found.lacks
+-- what it tells has the form of its first beat
+abbrev pub told_with : Tells → Tells → List Bool → Tells
+told_with begun beat there = with_words begun (words_with (words_of begun) (words_of beat) there)
+
+abbrev pub kept_with : OpenId → List Bool → Tells → OpenId
+kept_with found left tells = record found { lacks = Some left; begun = Some tells }
+
+abbrev pub first_beat : OpenId → List Bool → Tells → Change
+first_beat found left tells =
+    if lacks_some left then record (plain_change found.line) { keeps = Some (kept_with found left tells); part = parts.First }
+    else record (plain_change found.line) { frees = Some found.key }
+
+abbrev pub later_beat : OpenId → List Bool → Tells → Change
+later_beat found left tells =
+    if lacks_some left then record (plain_change found.line) { keeps = Some (kept_with found left tells); part = parts.Further }
+    else record (plain_change found.line) { frees = Some found.key; part = parts.Last tells }
+
+abbrev pub next_beat : IdKey → OpenId → List Bool → Tells → Option (List Bool) → Result Change IdReason
+next_beat key found there tells None = Ok (first_beat found (left_of (replicate 8 true) there) tells)
+next_beat key found there tells (Some lacks) =
+    if is_again lacks there then Err (WordAgain key) else
+    Ok (later_beat found (left_of lacks there) (told_with (unwrap_or found.begun tells) tells there))
+
+abbrev pub beat_of : Table → IdKey → List Bool → Option CacheLine → Tells → Result Change IdReason
+beat_of table key there at tells = named table key at >>= λ found. next_beat key found there tells found.lacks
 
 -- The first beat of a read's data opens the DBID.
-abbrev pub opening : Table → Sides → OpenId → DbId → Change → Result Change IdReason
-opening table sides found dbid change =
-    if change.further then Ok change else new_buffer table sides found (Some dbid) >>= λ opens. Ok (record change { opens = opens })
+abbrev pub opened_by : Table → Sides → OpenId → Option DbId → Change → Result Change IdReason
+opened_by table sides found dbid change = new_buffer table sides found dbid >>= λ opens. Ok (record change { opens = opens })
 
-unfoldable pub read_data : Table → Sides → TxnId → DbId → List Bool → Option CacheLine → Result Change IdReason
-read_data table sides txn dbid there at = do
+abbrev pub opening : Table → Sides → OpenId → Option DbId → Change → Part → Result Change IdReason
+opening table sides found dbid change parts.Whole = opened_by table sides found dbid change
+opening table sides found dbid change parts.First = opened_by table sides found dbid change
+opening table sides found dbid change parts.Further = Ok change
+opening table sides found dbid change (parts.Last tells) = Ok change
+
+unfoldable pub read_data : Table → Sides → TxnId → Option DbId → List Bool → Option CacheLine → Tells → Result Change IdReason
+read_data table sides txn dbid there at tells = do
   found ← named table (keys.Request sides txn) at
-  change ← beat_of table (keys.Request sides txn) there at
-  opening table sides found dbid change
+  change ← beat_of table (keys.Request sides txn) there at tells
+  opening table sides found dbid change change.part
 
 -- A credit is granted only where a retried request waits for one, or with early grants a first attempt is on its way.
 abbrev pub is_between : Sides → IdKey → Bool
@@ -219,17 +255,18 @@ abbrev pub returned : Table → Sides → PcrdType → Result Booking IdReason
 returned table sides pcrd = returned_booking sides pcrd (booking_of table sides pcrd events.Returned)
 
 -- each flit of a line between these nodes; the line is that of its address, if it has one
-abbrev pub change_of : WatchOptions → Table → Sides → IdStep → Option CacheLine → Result Change IdReason
-change_of options table sides (Attempt txn kind line) at = attempt_of table sides txn kind line
-change_of options table sides (Again txn kind line pcrd) at = again_of table sides txn kind line pcrd
-change_of options table sides (steps.Snoop txn snoop line) at = snooped table sides txn snoop line
-change_of options table sides (RetryAck txn pcrd) at = retried options table sides txn pcrd at
-change_of options table sides (Complete txn dbid) at = completed table sides txn dbid at
-change_of options table sides (ReadData txn dbid there) at = read_data table sides txn dbid there at
-change_of options table sides (Answer txn) at = acknowledged table (keys.Snoop sides txn) at
-change_of options table sides (AnswerData txn there) at = beat_of table (keys.Snoop sides txn) there at
-change_of options table sides (Acknowledge dbid) at = acknowledged table (keys.Buffer sides dbid) at
-change_of options table sides (WriteData dbid there) at = beat_of table (keys.Buffer sides dbid) there at
+abbrev pub change_of : WatchOptions → Table → Sides → IdStep → Option CacheLine → Tells → Result Change IdReason
+change_of options table sides (Attempt txn kind line) at tells = attempt_of table sides txn kind line
+change_of options table sides (Again txn kind line pcrd) at tells = again_of table sides txn kind line pcrd
+change_of options table sides (steps.Snoop txn snoop line) at tells = snooped table sides txn snoop line
+change_of options table sides (RetryAck txn pcrd) at tells = retried options table sides txn pcrd at
+change_of options table sides (Complete txn) at tells = acknowledged table (keys.Request sides txn) at
+change_of options table sides (CompleteWith txn dbid) at tells = completed table sides txn dbid at
+change_of options table sides (ReadData txn dbid there) at tells = read_data table sides txn dbid there at tells
+change_of options table sides (Answer txn) at tells = acknowledged table (keys.Snoop sides txn) at
+change_of options table sides (AnswerData txn there) at tells = beat_of table (keys.Snoop sides txn) there at tells
+change_of options table sides (Acknowledge dbid) at tells = acknowledged table (keys.Buffer sides dbid) at
+change_of options table sides (WriteData dbid there) at tells = beat_of table (keys.Buffer sides dbid) there at tells
 
 -- the ids behind it
 abbrev pub ids_after : Change → List (KeyNumbers × OpenId) → List (KeyNumbers × OpenId)

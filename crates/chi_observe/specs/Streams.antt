@@ -3,11 +3,11 @@
 use Rattle.std.specs.Prelude.{◌≡◌, ℕ, ◌+◌, ◌==◌, List, [], ◌∷◌, ◌++◌, Option, Some, None, Result, Ok, Err, IfSome, if◌then◌else◌, length}
 use Rattle.chi_script.specs.Files.{lines_of}
 use Rattle.chi_script.specs.declared.faults.Fault.{Fault}
-use Rattle.chi_trace.specs.Flits.{flit_at}
+use Rattle.chi_trace.specs.AnyFlits.{any_flit_at}
 use Rattle.chi_trace.specs.Words.{blank_words}
 use Rattle.chi_trace.specs.declared.faults.TraceFault.{TraceFault}
 use Rattle.chi_trace.specs.declared.faults.TraceFault.TheVariants.{MissingNewline}
-use Rattle.chi_trace.specs.declared.flits.Seen.{Seen}
+use Rattle.chi_trace.specs.declared.any_flits.AnySeen.{AnySeen}
 use Rattle.chi_observe.specs.declared.stream.Left.{Left}
 use Rattle.chi_observe.specs.declared.stream.Stream.{Stream}
 use Rattle.chi_observe.specs.declared.stream.TextStop.{TextStop}
@@ -27,16 +27,16 @@ abbrev pub taken_or : ℕ → Option Watched → Result Watched TraceStop
 taken_or n None = Err (Untaken n)
 taken_or n (Some w) = Ok w
 
-abbrev pub seen_after : Watched → Option Seen → Result Watched TraceStop
+abbrev pub seen_after : Watched → Option AnySeen → Result Watched TraceStop
 seen_after w None = Ok w
 seen_after w (Some seen) = taken_or seen.line (step w (event_of seen))
 
-abbrev pub read_after : Watched → Result (Option Seen) TraceFault → Result Watched TraceStop
+abbrev pub read_after : Watched → Result (Option AnySeen) TraceFault → Result Watched TraceStop
 read_after w (Ok seen) = seen_after w seen
 read_after w (Err fault) = Err (Malformed fault)
 
 abbrev pub text_after : Watched → ℕ → List ℕ → Result Watched TraceStop
-text_after w n line = read_after w (flit_at n (blank_words line))
+text_after w n line = read_after w (any_flit_at n (blank_words line))
 
 -- what follows the lines from line n on, or the first that stops it
 unfoldable pub trace_after : Watched → ℕ → List (List ℕ) → Result Watched TraceStop
@@ -51,7 +51,7 @@ IsStopAt w (texts.Untaken seen fault) r = (r ≡ Err (Untaken seen.line)) × IsF
 IsStopAt w texts.NoMemory r = Unit {0}
 
 -- a flit, a line, and lines, whatever follows them
-abbrev pub IsSeenTaken : {A : Type 0} → Watched → Watched → Seen → Result A TextStop → Type 0
+abbrev pub IsSeenTaken : {A : Type 0} → Watched → Watched → AnySeen → Result A TextStop → Type 0
 IsSeenTaken old new seen (Ok done) = seen_after old (Some seen) ≡ Ok new
 IsSeenTaken old new seen (Err stop) = IsStopAt new stop (seen_after old (Some seen))
 

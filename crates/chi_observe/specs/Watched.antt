@@ -1,9 +1,10 @@
 -- A watch over a trace: what its flits have told, and which flits it takes (docs/OBSERVER.md, "A trace of many lines").
-use Rattle.std.specs.Prelude.{◌≡◌, ℕ, ◌+◌, ◌==◌, ◌&&◌, ◌||◌, Bool, true, false, not, List, [], Option, Some, None, Result, Ok, Err, if◌then◌else◌, is_none, is_some, unwrap_or}
+use Rattle.std.specs.Prelude.{◌≡◌, ℕ, ◌+◌, ◌||◌, Bool, true, not, List, [], Option, Some, None, Result, Ok, Err, if◌then◌else◌, is_none, unwrap_or}
 use Rattle.chi_flit.specs.declared.numbers.Agent.{Agent}
 use Rattle.chi_trace.specs.declared.fields.NodeId.{NodeId}
-use Rattle.chi_trace.specs.declared.fields.PcrdType.{PcrdType}
-use Rattle.chi_observer.specs.declared.flits.Flit.{Flit}
+use Rattle.chi_observe.specs.declared.lines.LineNews.{LineNews}
+use Rattle.chi_observe.specs.declared.steps.Part.{Part}
+use Rattle.chi_observe.specs.declared.steps.Part.TheVariants as parts
 use Rattle.chi_observe.specs.declared.credits.Account.{Account}
 use Rattle.chi_observe.specs.declared.credits.AccountNumbers.{AccountNumbers}
 use Rattle.chi_observe.specs.declared.credits.Booking.{Booking}
@@ -29,8 +30,8 @@ use Rattle.chi_observe.specs.declared.watch.WatchFault.TheVariants as faults
 use Rattle.chi_observe.specs.declared.watch.WatchStop.{WatchStop}
 use Rattle.chi_observe.specs.declared.watch.WatchStop.TheVariants as stops
 use Rattle.chi_observe.specs.Credits.{booked, booked_all}
-use Rattle.chi_observe.specs.Events.{flit_by}
-use Rattle.chi_observe.specs.Lines.{LineState, is_aside, is_line_reason, line_next, lines_in, put_line, state_at, takes_line}
+use Rattle.chi_observe.specs.Events.{news_of}
+use Rattle.chi_observe.specs.Lines.{LineState, is_aside, is_line_reason, is_put_aside, line_next, lines_in, put_line, state_at, takes_line}
 use Rattle.chi_observe.specs.Nodes.{agent_of, with_home, with_requester}
 use Rattle.chi_observe.specs.Steps.{Table, change_of, granted, ids_after, returned}
 
@@ -71,18 +72,18 @@ formed (NoForm resp) change = Err (Form resp)
 formed tells change = change
 
 abbrev pub allowed : Watched → LineEvent → Result Change IdReason
-allowed w e = formed e.tells (change_of w.options (table_in w) e.sides e.step e.at)
+allowed w e = formed e.tells (change_of w.options (table_in w) e.sides e.step e.at e.tells)
 
 -- what it tells its line's observer
 abbrev pub agent_in : Watched → LineEvent → Option Agent
 agent_in w e = agent_of w.requesters w.homes e.sides
 
-abbrev pub flit_of : Watched → LineEvent → Option Flit
-flit_of w e = flit_by e.tells (agent_in w e)
+abbrev pub news_in : Watched → LineEvent → Change → LineNews
+news_in w e change = news_of e.tells change.part (agent_in w e)
 
 -- what it sets aside: a line that was judged so far
-abbrev pub mark_of : (ℕ → Option LineState) → CacheLine → Option Flit → ℕ → Option Aside
-mark_of lines line flit number = if is_some flit || is_aside (lines line.0) then None else Some (record { number = number; line = line })
+abbrev pub mark_of : (ℕ → Option LineState) → CacheLine → LineNews → ℕ → Option Aside
+mark_of lines line told number = if is_aside (lines line.0) || not (is_put_aside (lines line.0) told) then None else Some (record { number = number; line = line })
 
 -- a flit more, which is the first of its line, or sets it aside
 abbrev pub counts_first : Bool → Counts → Counts
@@ -92,10 +93,13 @@ abbrev pub counts_aside : Option Aside → Counts → Counts
 counts_aside None n = n
 counts_aside (Some mark) n = record n { aside = n.aside + 1; first_aside = Some (unwrap_or n.first_aside mark) }
 
-abbrev pub counts_after : Option Aside → Bool → Counts → Counts
-counts_after aside fresh n = counts_aside aside (counts_first fresh n)
+abbrev pub counts_after : Part → Option Aside → Bool → Counts → Counts
+counts_after parts.Whole aside fresh n = counts_aside aside (counts_first fresh n)
+counts_after parts.First aside fresh n = counts_aside aside (counts_first fresh n)
+counts_after parts.Further aside fresh n = counts_aside aside n
+counts_after (parts.Last tells) aside fresh n = counts_aside aside n
 
--- a flit of a line that does this, and a further beat
+-- a flit of a line that does this, and a beat that is neither its first nor its last
 abbrev pub flit_after : Watched → LineEvent → Change → Watched
 flit_after w e change = record {
   options = w.options;
@@ -103,8 +107,8 @@ flit_after w e change = record {
   homes = with_home (agent_in w e) e.sides.home w.homes;
   ids = ids_after change w.ids;
   accounts = booked_all change.books w.accounts;
-  lines = put_line change.line (line_next (state_at w.lines change.line e.sides.home) (flit_of w e)) w.lines;
-  counts = counts_after (mark_of w.lines change.line (flit_of w e) e.number) (is_none (w.lines change.line.0)) w.counts;
+  lines = put_line change.line (line_next (state_at w.lines change.line e.sides.home) (news_in w e change)) w.lines;
+  counts = counts_after change.part (mark_of w.lines change.line (news_in w e change) e.number) (is_none (w.lines change.line.0)) w.counts;
 }
 
 abbrev pub beat_after : Watched → Change → Watched
@@ -112,10 +116,16 @@ beat_after w change = record w { ids = ids_after change w.ids }
 
 -- what follows a flit of a line, if its line takes it
 abbrev pub told_after : Watched → LineEvent → Change → Option Watched
-told_after w e change = if takes_line (state_at w.lines change.line e.sides.home) e.sides.home (flit_of w e) then Some (flit_after w e change) else None
+told_after w e change = if takes_line (state_at w.lines change.line e.sides.home) e.sides.home (news_in w e change) then Some (flit_after w e change) else None
+
+abbrev pub by_part : Watched → LineEvent → Change → Part → Option Watched
+by_part w e change parts.Whole = told_after w e change
+by_part w e change parts.First = told_after w e change
+by_part w e change parts.Further = Some (beat_after w change)
+by_part w e change (parts.Last tells) = told_after w e change
 
 abbrev pub line_after : Watched → LineEvent → Result Change IdReason → Option Watched
-line_after w e (Ok change) = if change.further then Some (beat_after w change) else told_after w e change
+line_after w e (Ok change) = by_part w e change change.part
 line_after w e (Err reason) = None
 
 abbrev pub booking_after : Watched → Booking → Watched
@@ -138,7 +148,7 @@ step w (events.Line e) = line_after w e (allowed w e)
 -- why it isn't
 abbrev pub IsFault : Watched → Event → WatchFault → Type 0
 IsFault w (events.Line e) (faults.Ids reason) = allowed w e ≡ Err reason
-IsFault w (events.Line e) (faults.Line reason) = (change : Change) × (allowed w e ≡ Ok change) × (is_line_reason (state_at w.lines change.line e.sides.home) e.sides.home (flit_of w e) reason ≡ true)
+IsFault w (events.Line e) (faults.Line reason) = (change : Change) × (allowed w e ≡ Ok change) × (is_line_reason (state_at w.lines change.line e.sides.home) e.sides.home (news_in w e change) reason ≡ true)
 IsFault w (events.Granted sides pcrd) (faults.Ids reason) = granted w.options (table_in w) sides pcrd ≡ Err reason
 IsFault w (events.Returned sides pcrd) (faults.Ids reason) = returned (table_in w) sides pcrd ≡ Err reason
 IsFault w e fault = ⊥
@@ -152,13 +162,13 @@ settled w sides change agent mark fresh = record {
   ids = ids_after change w.ids;
   accounts = booked_all change.books w.accounts;
   lines = w.lines;
-  counts = counts_after mark fresh w.counts;
+  counts = counts_after change.part mark fresh w.counts;
 }
 
 -- a flit of a line that does this was taken, or its line refuses it and nothing has changed
 pub record IsLineRefused (old new : Watched) (e : LineEvent) (change : Change) (reason : LineReason) : Type 0 where
   pub refused : line_after old e (Ok change) ≡ None
-  pub holds : is_line_reason (state_at old.lines change.line e.sides.home) e.sides.home (flit_of old e) reason ≡ true
+  pub holds : is_line_reason (state_at old.lines change.line e.sides.home) e.sides.home (news_in old e change) reason ≡ true
   pub kept : new ≡ old
 
 abbrev pub IsFlitWatched : {A : Type 0} → Watched → Watched → LineEvent → Change → Result A WatchStop → Type 0

@@ -1,11 +1,12 @@
 //! What a flit of a trace is to a watch.
 
 ghost use Rattle.std.specs.Prelude.{◌≡◌};
-ghost use Rattle.chi_observe.specs.Events.{flit_by, judged};
+ghost use Rattle.chi_observe.specs.Events.{begun_by, flit_by, judged, news_of, with_words, words_of};
 
 use crate::ids::{CacheLine, Sides};
-use crate::steps::IdStep;
-use chi_flit::{Agent, Data};
+use crate::lines::LineNews;
+use crate::steps::{IdStep, Part};
+use chi_flit::{Agent, Data, NO_DATA};
 use chi_observer::{Act, CacheFlit, Flit, Grant, HomeFlit};
 use chi_trace::{PcrdType, Resp};
 
@@ -13,12 +14,10 @@ use chi_trace::{PcrdType, Resp};
 /// Source: `docs/OBSERVER.md`, "A trace of many lines".
 #[derive(Clone, Copy, Debug, PartialEq, Eq)]
 pub enum Tells {
-    /// A flit of a cache, with these words.
+    /// A flit of a cache, with these words; 0 in place of each that is in another beat.
     Sent(Act, Data),
-    /// A flit of the home, with these words.
+    /// The same of the home.
     Given(Grant, Data),
-    /// It isn't judged.
-    Unjudged,
     /// No flit of the opcode has this RESP.
     NoForm(Resp),
 }
@@ -62,7 +61,52 @@ pub(crate) fn flit_by(tells: Tells, agent: Option<Agent>) -> Option<Flit>
             grant,
             shown,
         })),
-        Tells::Unjudged | Tells::NoForm(_) => None,
+        Tells::NoForm(_) => None,
+    }
+}
+
+impl Tells {
+    /// The words.
+    pub(crate) fn words(self) -> Data
+        ensures { result ≡ words_of self }
+    {
+        match self {
+            Tells::Sent(_, words) => words,
+            Tells::Given(_, words) => words,
+            Tells::NoForm(_) => NO_DATA,
+        }
+    }
+
+    /// The same with these words.
+    pub(crate) fn with_words(self, words: Data) -> Tells
+        ensures { result ≡ with_words self words }
+    {
+        match self {
+            Tells::Sent(act, _) => Tells::Sent(act, words),
+            Tells::Given(grant, _) => Tells::Given(grant, words),
+            Tells::NoForm(resp) => Tells::NoForm(resp),
+        }
+    }
+}
+
+/// What a line is told of by a flit of this agent: of its data in this part.
+pub(crate) fn news_of(tells: Tells, part: Part, agent: Option<Agent>) -> LineNews
+    ensures { result ≡ news_of tells part agent }
+{
+    match part {
+        Part::Last(told) => LineNews::Ended(flit_by(told, agent)),
+        Part::First => begun_by(flit_by(tells, agent)),
+        Part::Whole | Part::Further => LineNews::Flit(flit_by(tells, agent)),
+    }
+}
+
+/// The first beat of data that such a flit has; of data that aren't judged a flit that isn't.
+fn begun_by(flit: Option<Flit>) -> LineNews
+    ensures { result ≡ begun_by flit }
+{
+    match flit {
+        Some(_) => LineNews::Begun,
+        None => LineNews::Flit(None),
     }
 }
 

@@ -1,9 +1,10 @@
 //! The ids that are open.
 
 ghost use Rattle.std.specs.Prelude.{◌≡◌};
-ghost use Rattle.chi_observe.specs.Ids.{id_of, numbers_of, opened_id};
+ghost use Rattle.chi_observe.specs.Ids.{id_of, is_followed, is_kept_for, numbers_of, opened_id};
 
-use chi_flit::{Kind, Snoop};
+use crate::events::Tells;
+use chi_observer::{Kind, Snoop};
 use chi_trace::{DbId, NodeId, PcrdType, TxnId};
 use indexmap::IndexMap;
 use std::alloc::Allocator;
@@ -28,7 +29,7 @@ pub struct Sides {
 pub enum IdKey {
     /// A request: from its flit to RetryAck, Comp, CompData or CompDBIDResp.
     Request(Sides, TxnId),
-    /// What the home keeps for a request: from Comp_UC, CompData or CompDBIDResp to CompAck or CopyBackWrData.
+    /// What the home keeps for a request: from Comp_UC, CompData or CompDBIDResp to CompAck or write data.
     Buffer(Sides, DbId),
     /// A snoop: from its flit to SnpResp or SnpRespData.
     Snoop(Sides, TxnId),
@@ -46,6 +47,38 @@ pub enum Purpose {
     Snoop(Snoop),
 }
 
+impl Purpose {
+    /// Whether the home keeps a DBID for it from its completion on, which CompAck or write data name.
+    pub(crate) fn is_kept_for(self) -> bool
+        ensures { result ≡ is_kept_for self }
+    {
+        match self {
+            Purpose::Request { kind, first: _ } => is_followed(kind),
+            Purpose::Snoop(_) => false,
+        }
+    }
+}
+
+/// Whether a CompAck or write data follow the completion of such a request.
+fn is_followed(kind: Kind) -> bool
+    ensures { result ≡ is_followed kind }
+{
+    match kind {
+        Kind::ReadOnce | Kind::CleanShared | Kind::CleanInvalid | Kind::MakeInvalid | Kind::Evict =>
+            false,
+        Kind::ReadNotSharedDirty
+        | Kind::ReadShared
+        | Kind::ReadClean
+        | Kind::ReadUnique
+        | Kind::CleanUnique
+        | Kind::MakeUnique
+        | Kind::WriteBackFull
+        | Kind::WriteCleanFull
+        | Kind::WriteEvictFull
+        | Kind::WriteUniqueFull => true,
+    }
+}
+
 /// An id that is open.
 /// Source: `docs/OBSERVER.md`, "Ids and credits".
 #[derive(Clone, Copy, Debug, PartialEq, Eq)]
@@ -57,6 +90,8 @@ pub struct OpenId {
     pub waits_for: Option<PcrdType>,
     /// Which words its data lacks, once a beat has come.
     pub lacks: Option<[bool; 8]>,
+    /// What its data tell, with the words that have come, once a beat has.
+    pub begun: Option<Tells>,
 }
 
 /// A key as numbers, by which a table finds what it names.
@@ -110,5 +145,6 @@ pub(crate) fn opened_id(key: IdKey, line: CacheLine, purpose: Purpose) -> OpenId
         purpose,
         waits_for: None,
         lacks: None,
+        begun: None,
     }
 }

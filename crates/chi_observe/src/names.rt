@@ -1,9 +1,9 @@
 //! How nodes, lines and flits are written. No clause says these texts: they are tested.
 
 use crate::ids::{CacheLine, IdKey};
-use chi_flit::Data;
-use chi_observer::{Act, Answer, Grant, Told};
-use chi_trace::{Flit, NodeId, Seen};
+use chi_flit::{Data, State};
+use chi_observer::{Act, Answer, Grant, Kind, Snoop, Told};
+use chi_trace::{AnyFlit, AnySeen, Flit, NodeId, Resp};
 use std::fmt;
 
 /// A node, in hexadecimal as in a trace.
@@ -16,7 +16,15 @@ pub(crate) struct LineName(pub CacheLine);
 
 /// A flit: its opcode and its RESP, and that it is sent again.
 #[derive(Clone, Copy)]
-pub(crate) struct SeenName<'a>(pub &'a Seen);
+pub(crate) struct SeenName<'a>(pub &'a AnySeen);
+
+/// A kind of request.
+#[derive(Clone, Copy)]
+pub(crate) struct KindName(pub Kind);
+
+/// A snoop.
+#[derive(Clone, Copy)]
+pub(crate) struct SnoopName(pub Snoop);
 
 /// The words of a line.
 #[derive(Clone, Copy)]
@@ -44,23 +52,88 @@ impl fmt::Display for LineName {
     }
 }
 
+/// The RESP that a flit of the profile has in its name.
+fn resp_of(flit: &Flit) -> Option<Resp> {
+    match flit {
+        Flit::CompUC { .. } => Some(Resp::UC),
+        Flit::Comp { resp, .. } => Some(*resp),
+        Flit::SnpResp { resp, .. } => Some(*resp),
+        Flit::CompData { resp, .. } => Some(*resp),
+        Flit::SnpRespData { resp, .. } => Some(*resp),
+        Flit::CopyBackWrData { resp, .. } => Some(*resp),
+        _ => None,
+    }
+}
+
+/// The RESP that a flit has in its name.
+fn any_resp_of(flit: &AnyFlit) -> Option<Resp> {
+    match flit {
+        AnyFlit::Profile(flit) => resp_of(flit),
+        AnyFlit::CompUC { .. } => Some(Resp::UC),
+        AnyFlit::CompData { resp, .. } => Some(*resp),
+        AnyFlit::NonCopyBackWrData { resp, .. } => Some(*resp),
+        AnyFlit::Request { .. } => None,
+        AnyFlit::Snoop { .. } => None,
+    }
+}
+
+/// Whether a request is sent again.
+fn is_again(flit: &AnyFlit) -> bool {
+    match flit {
+        AnyFlit::Profile(Flit::Request { spends, .. }) => spends.is_some(),
+        AnyFlit::Request { fields, .. } => fields.spends.is_some(),
+        _ => false,
+    }
+}
+
 impl fmt::Display for SeenName<'_> {
     fn fmt<W: fmt::Write>(&self, f: &mut fmt::Formatter<W>) -> fmt::Result {
         let opcode = self.0.flit.opcode();
         write!(f, "{opcode}")?;
-        match &self.0.flit {
-            Flit::Request {
-                spends: Some(_),
-                ..
-            } => f.write_str(" with AR 0"),
-            Flit::CompUC { .. } => f.write_str("_UC"),
-            Flit::Comp { resp, .. } => write!(f, "_{resp}"),
-            Flit::SnpResp { resp, .. } => write!(f, "_{resp}"),
-            Flit::CompData { resp, .. } => write!(f, "_{resp}"),
-            Flit::SnpRespData { resp, .. } => write!(f, "_{resp}"),
-            Flit::CopyBackWrData { resp, .. } => write!(f, "_{resp}"),
-            _ => Ok(()),
+        if let Some(resp) = any_resp_of(&self.0.flit) {
+            write!(f, "_{resp}")?;
         }
+        if is_again(&self.0.flit) {
+            f.write_str(" with AR 0")?;
+        }
+        Ok(())
+    }
+}
+
+impl fmt::Display for KindName {
+    fn fmt<W: fmt::Write>(&self, f: &mut fmt::Formatter<W>) -> fmt::Result {
+        f.write_str(match self.0 {
+            Kind::ReadNotSharedDirty => "ReadNotSharedDirty",
+            Kind::ReadShared => "ReadShared",
+            Kind::ReadClean => "ReadClean",
+            Kind::ReadOnce => "ReadOnce",
+            Kind::ReadUnique => "ReadUnique",
+            Kind::CleanUnique => "CleanUnique",
+            Kind::MakeUnique => "MakeUnique",
+            Kind::CleanShared => "CleanShared",
+            Kind::CleanInvalid => "CleanInvalid",
+            Kind::MakeInvalid => "MakeInvalid",
+            Kind::Evict => "Evict",
+            Kind::WriteBackFull => "WriteBackFull",
+            Kind::WriteCleanFull => "WriteCleanFull",
+            Kind::WriteEvictFull => "WriteEvictFull",
+            Kind::WriteUniqueFull => "WriteUniqueFull",
+        })
+    }
+}
+
+impl fmt::Display for SnoopName {
+    fn fmt<W: fmt::Write>(&self, f: &mut fmt::Formatter<W>) -> fmt::Result {
+        f.write_str(match self.0 {
+            Snoop::SnpOnce => "SnpOnce",
+            Snoop::SnpClean => "SnpClean",
+            Snoop::SnpShared => "SnpShared",
+            Snoop::SnpNotSharedDirty => "SnpNotSharedDirty",
+            Snoop::SnpCleanShared => "SnpCleanShared",
+            Snoop::SnpUnique => "SnpUnique",
+            Snoop::SnpCleanInvalid => "SnpCleanInvalid",
+            Snoop::SnpMakeInvalid => "SnpMakeInvalid",
+        })
     }
 }
 
@@ -113,95 +186,73 @@ impl fmt::Display for KeyName {
     }
 }
 
+/// The requester that a flit of the home goes to.
+fn asked_by(flit: &AnyFlit) -> Option<NodeId> {
+    match flit {
+        AnyFlit::Profile(Flit::Snoop { target, .. }) => Some(*target),
+        AnyFlit::Profile(Flit::PCrdGrant { target, .. }) => Some(*target),
+        AnyFlit::Profile(Flit::RetryAck { transaction, .. }) => Some(transaction.target),
+        AnyFlit::Profile(Flit::CompUC { transaction, .. }) => Some(transaction.target),
+        AnyFlit::Profile(Flit::Comp { transaction, .. }) => Some(transaction.target),
+        AnyFlit::Profile(Flit::CompDBIDResp { transaction, .. }) => Some(transaction.target),
+        AnyFlit::Profile(Flit::CompData { transaction, .. }) => Some(transaction.target),
+        AnyFlit::Snoop { fields, .. } => Some(fields.target),
+        AnyFlit::CompUC { transaction } => Some(transaction.target),
+        AnyFlit::CompData { transaction, .. } => Some(transaction.target),
+        _ => None,
+    }
+}
+
 /// The node that a flit's requester is, and whether the flit is of it or to it.
-pub(crate) fn requester_of(seen: &Seen) -> (NodeId, &'static str) {
-    match &seen.flit {
-        Flit::Snoop { target, .. } => (*target, "to"),
-        Flit::PCrdGrant { target, .. } => (*target, "to"),
-        Flit::RetryAck { transaction, .. } => (transaction.target, "to"),
-        Flit::CompUC { transaction, .. } => (transaction.target, "to"),
-        Flit::Comp { transaction, .. } => (transaction.target, "to"),
-        Flit::CompDBIDResp { transaction, .. } => (transaction.target, "to"),
-        Flit::CompData { transaction, .. } => (transaction.target, "to"),
-        _ => (seen.source, "of"),
+pub(crate) fn requester_of(seen: &AnySeen) -> (NodeId, &'static str) {
+    match asked_by(&seen.flit) {
+        Some(node) => (node, "to"),
+        None => (seen.source, "of"),
     }
 }
 
 /// The flits of a cache, by their names in a trace.
-pub(crate) const SENT: [(Act, &str); 42] = [
+pub(crate) const SENT: [(Act, &str); 48] = [
+    (Act::Request(Kind::ReadNotSharedDirty), "ReadNotSharedDirty"),
+    (Act::Request(Kind::ReadShared), "ReadShared"),
+    (Act::Request(Kind::ReadClean), "ReadClean"),
+    (Act::Request(Kind::ReadOnce), "ReadOnce"),
+    (Act::Request(Kind::ReadUnique), "ReadUnique"),
+    (Act::Request(Kind::CleanUnique), "CleanUnique"),
+    (Act::Request(Kind::MakeUnique), "MakeUnique"),
+    (Act::Request(Kind::CleanShared), "CleanShared"),
+    (Act::Request(Kind::CleanInvalid), "CleanInvalid"),
+    (Act::Request(Kind::MakeInvalid), "MakeInvalid"),
+    (Act::Request(Kind::Evict), "Evict"),
+    (Act::Request(Kind::WriteBackFull), "WriteBackFull"),
+    (Act::Request(Kind::WriteCleanFull), "WriteCleanFull"),
+    (Act::Request(Kind::WriteEvictFull), "WriteEvictFull"),
+    (Act::Request(Kind::WriteUniqueFull), "WriteUniqueFull"),
     (
-        Act::Request(chi_observer::Kind::ReadNotSharedDirty),
-        "ReadNotSharedDirty",
-    ),
-    (Act::Request(chi_observer::Kind::ReadShared), "ReadShared"),
-    (Act::Request(chi_observer::Kind::ReadClean), "ReadClean"),
-    (Act::Request(chi_observer::Kind::ReadUnique), "ReadUnique"),
-    (Act::Request(chi_observer::Kind::CleanUnique), "CleanUnique"),
-    (Act::Request(chi_observer::Kind::CleanShared), "CleanShared"),
-    (
-        Act::Request(chi_observer::Kind::CleanInvalid),
-        "CleanInvalid",
-    ),
-    (Act::Request(chi_observer::Kind::Evict), "Evict"),
-    (
-        Act::Request(chi_observer::Kind::WriteBackFull),
-        "WriteBackFull",
-    ),
-    (
-        Act::Request(chi_observer::Kind::WriteCleanFull),
-        "WriteCleanFull",
-    ),
-    (
-        Act::Request(chi_observer::Kind::WriteEvictFull),
-        "WriteEvictFull",
-    ),
-    (
-        Act::Request(chi_observer::Kind::WriteUniqueFull),
-        "WriteUniqueFull",
-    ),
-    (
-        Act::Resend(chi_observer::Kind::ReadNotSharedDirty),
+        Act::Resend(Kind::ReadNotSharedDirty),
         "ReadNotSharedDirty with AR 0",
     ),
+    (Act::Resend(Kind::ReadShared), "ReadShared with AR 0"),
+    (Act::Resend(Kind::ReadClean), "ReadClean with AR 0"),
+    (Act::Resend(Kind::ReadOnce), "ReadOnce with AR 0"),
+    (Act::Resend(Kind::ReadUnique), "ReadUnique with AR 0"),
+    (Act::Resend(Kind::CleanUnique), "CleanUnique with AR 0"),
+    (Act::Resend(Kind::MakeUnique), "MakeUnique with AR 0"),
+    (Act::Resend(Kind::CleanShared), "CleanShared with AR 0"),
+    (Act::Resend(Kind::CleanInvalid), "CleanInvalid with AR 0"),
+    (Act::Resend(Kind::MakeInvalid), "MakeInvalid with AR 0"),
+    (Act::Resend(Kind::Evict), "Evict with AR 0"),
+    (Act::Resend(Kind::WriteBackFull), "WriteBackFull with AR 0"),
     (
-        Act::Resend(chi_observer::Kind::ReadShared),
-        "ReadShared with AR 0",
-    ),
-    (
-        Act::Resend(chi_observer::Kind::ReadClean),
-        "ReadClean with AR 0",
-    ),
-    (
-        Act::Resend(chi_observer::Kind::ReadUnique),
-        "ReadUnique with AR 0",
-    ),
-    (
-        Act::Resend(chi_observer::Kind::CleanUnique),
-        "CleanUnique with AR 0",
-    ),
-    (
-        Act::Resend(chi_observer::Kind::CleanShared),
-        "CleanShared with AR 0",
-    ),
-    (
-        Act::Resend(chi_observer::Kind::CleanInvalid),
-        "CleanInvalid with AR 0",
-    ),
-    (Act::Resend(chi_observer::Kind::Evict), "Evict with AR 0"),
-    (
-        Act::Resend(chi_observer::Kind::WriteBackFull),
-        "WriteBackFull with AR 0",
-    ),
-    (
-        Act::Resend(chi_observer::Kind::WriteCleanFull),
+        Act::Resend(Kind::WriteCleanFull),
         "WriteCleanFull with AR 0",
     ),
     (
-        Act::Resend(chi_observer::Kind::WriteEvictFull),
+        Act::Resend(Kind::WriteEvictFull),
         "WriteEvictFull with AR 0",
     ),
     (
-        Act::Resend(chi_observer::Kind::WriteUniqueFull),
+        Act::Resend(Kind::WriteUniqueFull),
         "WriteUniqueFull with AR 0",
     ),
     (Act::CompAck, "CompAck"),
@@ -216,50 +267,31 @@ pub(crate) const SENT: [(Act, &str); 42] = [
     (Act::SnpResp(Answer::SnpRespDataIPD), "SnpRespData_I_PD"),
     (Act::SnpResp(Answer::SnpRespDataSCPD), "SnpRespData_SC_PD"),
     (Act::SnpResp(Answer::SnpRespDataUCPD), "SnpRespData_UC_PD"),
-    (Act::CopyBackWrData(chi_flit::State::I), "CopyBackWrData_I"),
-    (
-        Act::CopyBackWrData(chi_flit::State::SC),
-        "CopyBackWrData_SC",
-    ),
-    (
-        Act::CopyBackWrData(chi_flit::State::UC),
-        "CopyBackWrData_UC",
-    ),
-    (
-        Act::CopyBackWrData(chi_flit::State::UD),
-        "CopyBackWrData_UD_PD",
-    ),
-    (
-        Act::CopyBackWrData(chi_flit::State::SD),
-        "CopyBackWrData_SD_PD",
-    ),
+    (Act::CopyBackWrData(State::I), "CopyBackWrData_I"),
+    (Act::CopyBackWrData(State::SC), "CopyBackWrData_SC"),
+    (Act::CopyBackWrData(State::UC), "CopyBackWrData_UC"),
+    (Act::CopyBackWrData(State::UD), "CopyBackWrData_UD_PD"),
+    (Act::CopyBackWrData(State::SD), "CopyBackWrData_SD_PD"),
     (Act::NonCopyBackWrData, "NonCopyBackWrData_I"),
 ];
 
 /// The flits of a home, by their names in a trace.
-pub(crate) const GIVEN: [(Grant, &str); 16] = [
+pub(crate) const GIVEN: [(Grant, &str); 18] = [
     (Grant::RetryAck, "RetryAck"),
-    (Grant::Snp(chi_observer::Snoop::SnpOnce), "SnpOnce"),
-    (Grant::Snp(chi_observer::Snoop::SnpClean), "SnpClean"),
-    (Grant::Snp(chi_observer::Snoop::SnpShared), "SnpShared"),
-    (
-        Grant::Snp(chi_observer::Snoop::SnpNotSharedDirty),
-        "SnpNotSharedDirty",
-    ),
-    (
-        Grant::Snp(chi_observer::Snoop::SnpCleanShared),
-        "SnpCleanShared",
-    ),
-    (Grant::Snp(chi_observer::Snoop::SnpUnique), "SnpUnique"),
-    (
-        Grant::Snp(chi_observer::Snoop::SnpCleanInvalid),
-        "SnpCleanInvalid",
-    ),
+    (Grant::Snp(Snoop::SnpOnce), "SnpOnce"),
+    (Grant::Snp(Snoop::SnpClean), "SnpClean"),
+    (Grant::Snp(Snoop::SnpShared), "SnpShared"),
+    (Grant::Snp(Snoop::SnpNotSharedDirty), "SnpNotSharedDirty"),
+    (Grant::Snp(Snoop::SnpCleanShared), "SnpCleanShared"),
+    (Grant::Snp(Snoop::SnpUnique), "SnpUnique"),
+    (Grant::Snp(Snoop::SnpCleanInvalid), "SnpCleanInvalid"),
+    (Grant::Snp(Snoop::SnpMakeInvalid), "SnpMakeInvalid"),
     (Grant::CompDBIDResp, "CompDBIDResp"),
-    (Grant::CompData(chi_flit::State::SC), "CompData_SC"),
-    (Grant::CompData(chi_flit::State::UC), "CompData_UC"),
-    (Grant::CompData(chi_flit::State::UD), "CompData_UD_PD"),
-    (Grant::CompData(chi_flit::State::SD), "CompData_SD_PD"),
+    (Grant::CompData(State::I), "CompData_I"),
+    (Grant::CompData(State::SC), "CompData_SC"),
+    (Grant::CompData(State::UC), "CompData_UC"),
+    (Grant::CompData(State::UD), "CompData_UD_PD"),
+    (Grant::CompData(State::SD), "CompData_SD_PD"),
     (Grant::CompI, "Comp_I"),
     (Grant::CompSC, "Comp_SC"),
     (Grant::CompUC, "Comp_UC"),

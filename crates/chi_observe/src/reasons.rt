@@ -28,6 +28,8 @@ pub enum IdReason {
     NothingRetried(Sides, PcrdType),
     /// A request without AllowRetry, or a returned credit, and there is no credit of the type.
     NoCredit(Sides, PcrdType),
+    /// A completion of this request names no DBID, and a CompAck or write data are to name it.
+    NoDbid(IdKey),
     /// No flit of the opcode has this RESP.
     Form(Resp),
 }

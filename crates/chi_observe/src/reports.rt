@@ -9,7 +9,7 @@ use crate::names::{LineName, NodeName, SeenName, requester_of};
 use crate::seen::event_of;
 use crate::stream::TextStop;
 use crate::watch::{Counts, Watch, WatchFault};
-use chi_trace::{Column, Seen, TraceFault};
+use chi_trace::{AnySeen, Column, TraceFault};
 use std::alloc::{AllocError, Allocator};
 use std::fmt;
 use std::fmt::Write;
@@ -165,7 +165,12 @@ impl<A: Allocator + Copy> Watch<A> {
     }
 
     /// What is told of a flit that isn't taken.
-    fn faulty_text(&self, alloc: A, seen: &Seen, fault: WatchFault) -> Result<String<A>, AllocError>
+    fn faulty_text(
+        &self,
+        alloc: A,
+        seen: &AnySeen,
+        fault: WatchFault,
+    ) -> Result<String<A>, AllocError>
         ensures { IfOk result
             (λ text. BeginsWith (numbered seen.now.line) (string_bytes text)) }
     {
@@ -179,7 +184,7 @@ impl<A: Allocator + Copy> Watch<A> {
     fn write_untaken(
         &self,
         text: &mut String<A>,
-        seen: &Seen,
+        seen: &AnySeen,
         fault: WatchFault,
     ) -> Result<(), AllocError> {
         let event = event_of(seen);

@@ -1,14 +1,17 @@
 //! What each line of a trace is to a watch: the one place where a trace's words become an observer's.
 
 ghost use Rattle.std.specs.Prelude.{◌≡◌, length};
-ghost use Rattle.chi_observe.specs.Seen.{answer_data_told, answer_told, completion_told, down, event_of, is_whole, kind_named, line_named, line_of, named_buffer, read_told, request_step, request_told, snoop_named, up, whole_given, whole_sent, written_told};
+ghost use Rattle.chi_observe.specs.Seen.{answer_data_told, answer_told, completion_told, data_given, data_sent, down, event_of, kind_named, line_named, line_of, named_buffer, other_kind_named, other_snoop_named, profile_event, read_event, read_told, request_event, request_step, request_told, snoop_event, snoop_named, up, whole_written_told, written_told};
 
 use crate::events::{Event, LineEvent, Tells};
 use crate::ids::{CacheLine, Sides};
 use crate::steps::IdStep;
 use chi_flit::{NO_DATA, State};
-use chi_observer::{Act, Answer, Grant};
-use chi_trace::{Address, Beat, DbId, Flit, NodeId, PcrdType, Resp, Seen, Transaction, TxnId};
+use chi_observer::{Act, Answer, Grant, Kind, Snoop};
+use chi_trace::{
+    Address, AnyFlit, AnySeen, Beat, DbId, Flit, NodeId, OtherKind, OtherSnoop, PcrdType,
+    RequestFields, Resp, SnoopFields, Transaction, TxnId,
+};
 
 /// The line that a byte is in.
 /// Source: `docs/TRACES.md`, "Traces".
@@ -29,55 +32,78 @@ fn line_named(address: Option<Address>) -> Option<CacheLine>
 }
 
 /// The kind of this name.
-fn kind_named(kind: chi_flit::Kind) -> chi_observer::Kind
+fn kind_named(kind: chi_flit::Kind) -> Kind
     ensures { result ≡ kind_named kind }
 {
     match kind {
-        chi_flit::Kind::ReadNotSharedDirty => chi_observer::Kind::ReadNotSharedDirty,
-        chi_flit::Kind::ReadShared => chi_observer::Kind::ReadShared,
-        chi_flit::Kind::ReadUnique => chi_observer::Kind::ReadUnique,
-        chi_flit::Kind::CleanUnique => chi_observer::Kind::CleanUnique,
-        chi_flit::Kind::Evict => chi_observer::Kind::Evict,
-        chi_flit::Kind::WriteBackFull => chi_observer::Kind::WriteBackFull,
-        chi_flit::Kind::WriteCleanFull => chi_observer::Kind::WriteCleanFull,
-        chi_flit::Kind::WriteEvictFull => chi_observer::Kind::WriteEvictFull,
+        chi_flit::Kind::ReadNotSharedDirty => Kind::ReadNotSharedDirty,
+        chi_flit::Kind::ReadShared => Kind::ReadShared,
+        chi_flit::Kind::ReadUnique => Kind::ReadUnique,
+        chi_flit::Kind::CleanUnique => Kind::CleanUnique,
+        chi_flit::Kind::Evict => Kind::Evict,
+        chi_flit::Kind::WriteBackFull => Kind::WriteBackFull,
+        chi_flit::Kind::WriteCleanFull => Kind::WriteCleanFull,
+        chi_flit::Kind::WriteEvictFull => Kind::WriteEvictFull,
     }
 }
 
 /// The snoop of this name.
-fn snoop_named(snoop: chi_flit::Snoop) -> chi_observer::Snoop
+fn snoop_named(snoop: chi_flit::Snoop) -> Snoop
     ensures { result ≡ snoop_named snoop }
 {
     match snoop {
-        chi_flit::Snoop::SnpShared => chi_observer::Snoop::SnpShared,
-        chi_flit::Snoop::SnpNotSharedDirty => chi_observer::Snoop::SnpNotSharedDirty,
-        chi_flit::Snoop::SnpUnique => chi_observer::Snoop::SnpUnique,
-        chi_flit::Snoop::SnpCleanInvalid => chi_observer::Snoop::SnpCleanInvalid,
+        chi_flit::Snoop::SnpShared => Snoop::SnpShared,
+        chi_flit::Snoop::SnpNotSharedDirty => Snoop::SnpNotSharedDirty,
+        chi_flit::Snoop::SnpUnique => Snoop::SnpUnique,
+        chi_flit::Snoop::SnpCleanInvalid => Snoop::SnpCleanInvalid,
+    }
+}
+
+/// The kind of this name.
+fn other_kind_named(kind: OtherKind) -> Kind
+    ensures { result ≡ other_kind_named kind }
+{
+    match kind {
+        OtherKind::ReadClean => Kind::ReadClean,
+        OtherKind::ReadOnce => Kind::ReadOnce,
+        OtherKind::MakeUnique => Kind::MakeUnique,
+        OtherKind::CleanShared => Kind::CleanShared,
+        OtherKind::CleanInvalid => Kind::CleanInvalid,
+        OtherKind::MakeInvalid => Kind::MakeInvalid,
+        OtherKind::WriteUniqueFull => Kind::WriteUniqueFull,
+    }
+}
+
+/// The snoop of this name.
+fn other_snoop_named(snoop: OtherSnoop) -> Snoop
+    ensures { result ≡ other_snoop_named snoop }
+{
+    match snoop {
+        OtherSnoop::SnpOnce => Snoop::SnpOnce,
+        OtherSnoop::SnpClean => Snoop::SnpClean,
+        OtherSnoop::SnpCleanShared => Snoop::SnpCleanShared,
+        OtherSnoop::SnpMakeInvalid => Snoop::SnpMakeInvalid,
     }
 }
 
 /// What a request is to ids and credits: one that spends a credit is sent again.
-fn request_step(
-    kind: chi_flit::Kind,
-    spends: Option<PcrdType>,
-    txn: TxnId,
-    address: Address,
-) -> IdStep
-    ensures { result ≡ request_step kind spends txn address }
+fn request_step(kind: Kind, fields: RequestFields) -> IdStep
+    ensures { result ≡ request_step kind fields }
 {
-    match spends {
-        None => IdStep::Attempt(txn, kind, line_of(address)),
-        Some(pcrd) => IdStep::Again(txn, kind, line_of(address), pcrd),
+    let line = line_of(fields.address);
+    match fields.spends {
+        None => IdStep::Attempt(fields.txn, kind, line),
+        Some(pcrd) => IdStep::Again(fields.txn, kind, line, pcrd),
     }
 }
 
 /// What a request tells.
-fn request_told(kind: chi_flit::Kind, spends: Option<PcrdType>) -> Tells
+fn request_told(kind: Kind, spends: Option<PcrdType>) -> Tells
     ensures { result ≡ request_told kind spends }
 {
     match spends {
-        None => Tells::Sent(Act::Request(kind_named(kind)), NO_DATA),
-        Some(_) => Tells::Sent(Act::Resend(kind_named(kind)), NO_DATA),
+        None => Tells::Sent(Act::Request(kind), NO_DATA),
+        Some(_) => Tells::Sent(Act::Resend(kind), NO_DATA),
     }
 }
 
@@ -112,33 +138,18 @@ fn answer_told(resp: Resp) -> Tells
     }
 }
 
-/// Whether a beat has all words.
-fn is_whole(beat: &Beat) -> bool
-    ensures { result ≡ is_whole beat.now }
+/// What data of a cache tell.
+fn data_sent(beat: &Beat, act: Act) -> Tells
+    ensures { result ≡ data_sent beat.now act }
 {
-    beat.there.iter().all(|there| *there)
+    Tells::Sent(act, beat.words)
 }
 
-/// What data of a cache tell; data that lack words aren't judged.
-fn whole_sent(beat: &Beat, act: Act) -> Tells
-    ensures { result ≡ whole_sent beat.now act }
+/// What data of the home tell.
+fn data_given(beat: &Beat, state: State) -> Tells
+    ensures { result ≡ data_given beat.now state }
 {
-    if is_whole(beat) {
-        Tells::Sent(act, beat.words)
-    } else {
-        Tells::Unjudged
-    }
-}
-
-/// What data of the home tell; data that lack words aren't judged.
-fn whole_given(beat: &Beat, state: State) -> Tells
-    ensures { result ≡ whole_given beat.now state }
-{
-    if is_whole(beat) {
-        Tells::Given(Grant::CompData(state), beat.words)
-    } else {
-        Tells::Unjudged
-    }
+    Tells::Given(Grant::CompData(state), beat.words)
 }
 
 /// What an answer with data tells.
@@ -146,14 +157,14 @@ fn answer_data_told(resp: Resp, beat: &Beat) -> Tells
     ensures { result ≡ answer_data_told resp beat.now }
 {
     match resp {
-        Resp::I => whole_sent(beat, Act::SnpResp(Answer::SnpRespDataI)),
-        Resp::SC => whole_sent(beat, Act::SnpResp(Answer::SnpRespDataSC)),
-        Resp::UC => whole_sent(beat, Act::SnpResp(Answer::SnpRespDataUC)),
-        Resp::UD => whole_sent(beat, Act::SnpResp(Answer::SnpRespDataUD)),
-        Resp::SD => whole_sent(beat, Act::SnpResp(Answer::SnpRespDataSD)),
-        Resp::IPD => whole_sent(beat, Act::SnpResp(Answer::SnpRespDataIPD)),
-        Resp::SCPD => whole_sent(beat, Act::SnpResp(Answer::SnpRespDataSCPD)),
-        Resp::UCPD => whole_sent(beat, Act::SnpResp(Answer::SnpRespDataUCPD)),
+        Resp::I => data_sent(beat, Act::SnpResp(Answer::SnpRespDataI)),
+        Resp::SC => data_sent(beat, Act::SnpResp(Answer::SnpRespDataSC)),
+        Resp::UC => data_sent(beat, Act::SnpResp(Answer::SnpRespDataUC)),
+        Resp::UD => data_sent(beat, Act::SnpResp(Answer::SnpRespDataUD)),
+        Resp::SD => data_sent(beat, Act::SnpResp(Answer::SnpRespDataSD)),
+        Resp::IPD => data_sent(beat, Act::SnpResp(Answer::SnpRespDataIPD)),
+        Resp::SCPD => data_sent(beat, Act::SnpResp(Answer::SnpRespDataSCPD)),
+        Resp::UCPD => data_sent(beat, Act::SnpResp(Answer::SnpRespDataUCPD)),
         Resp::UDPD | Resp::SDPD => Tells::NoForm(resp),
     }
 }
@@ -163,12 +174,30 @@ fn written_told(resp: Resp, beat: &Beat) -> Tells
     ensures { result ≡ written_told resp beat.now }
 {
     match resp {
-        Resp::I => whole_sent(beat, Act::CopyBackWrData(State::I)),
-        Resp::SC => whole_sent(beat, Act::CopyBackWrData(State::SC)),
-        Resp::UC => whole_sent(beat, Act::CopyBackWrData(State::UC)),
-        Resp::UDPD => whole_sent(beat, Act::CopyBackWrData(State::UD)),
-        Resp::SDPD => whole_sent(beat, Act::CopyBackWrData(State::SD)),
+        Resp::I => data_sent(beat, Act::CopyBackWrData(State::I)),
+        Resp::SC => data_sent(beat, Act::CopyBackWrData(State::SC)),
+        Resp::UC => data_sent(beat, Act::CopyBackWrData(State::UC)),
+        Resp::UDPD => data_sent(beat, Act::CopyBackWrData(State::UD)),
+        Resp::SDPD => data_sent(beat, Act::CopyBackWrData(State::SD)),
         Resp::UD | Resp::SD | Resp::IPD | Resp::SCPD | Resp::UCPD => Tells::NoForm(resp),
+    }
+}
+
+/// What the write data of a WriteUniqueFull tell.
+fn whole_written_told(resp: Resp, beat: &Beat) -> Tells
+    ensures { result ≡ whole_written_told resp beat.now }
+{
+    match resp {
+        Resp::I => data_sent(beat, Act::NonCopyBackWrData),
+        Resp::SC
+        | Resp::UC
+        | Resp::UD
+        | Resp::SD
+        | Resp::IPD
+        | Resp::SCPD
+        | Resp::UCPD
+        | Resp::UDPD
+        | Resp::SDPD => Tells::NoForm(resp),
     }
 }
 
@@ -177,11 +206,11 @@ fn read_told(resp: Resp, beat: &Beat) -> Tells
     ensures { result ≡ read_told resp beat.now }
 {
     match resp {
-        Resp::I => whole_given(beat, State::I),
-        Resp::SC => whole_given(beat, State::SC),
-        Resp::UC => whole_given(beat, State::UC),
-        Resp::UDPD => whole_given(beat, State::UD),
-        Resp::SDPD => whole_given(beat, State::SD),
+        Resp::I => data_given(beat, State::I),
+        Resp::SC => data_given(beat, State::SC),
+        Resp::UC => data_given(beat, State::UC),
+        Resp::UDPD => data_given(beat, State::UD),
+        Resp::SDPD => data_given(beat, State::SD),
         Resp::UD | Resp::SD | Resp::IPD | Resp::SCPD | Resp::UCPD => Tells::NoForm(resp),
     }
 }
@@ -194,7 +223,7 @@ fn named_buffer(transaction: &Transaction) -> DbId
 }
 
 /// A flit from a requester to the home.
-fn up(seen: &Seen, home: NodeId, at: Option<Address>, step: IdStep, tells: Tells) -> Event
+fn up(seen: &AnySeen, home: NodeId, at: Option<Address>, step: IdStep, tells: Tells) -> Event
     ensures { result ≡ up seen.now home at step tells }
 {
     Event::Line(LineEvent {
@@ -210,7 +239,7 @@ fn up(seen: &Seen, home: NodeId, at: Option<Address>, step: IdStep, tells: Tells
 }
 
 /// A flit from the home to a requester.
-fn down(seen: &Seen, requester: NodeId, at: Option<Address>, step: IdStep, tells: Tells) -> Event
+fn down(seen: &AnySeen, requester: NodeId, at: Option<Address>, step: IdStep, tells: Tells) -> Event
     ensures { result ≡ down seen.now requester at step tells }
 {
     Event::Line(LineEvent {
@@ -226,39 +255,71 @@ fn down(seen: &Seen, requester: NodeId, at: Option<Address>, step: IdStep, tells
 }
 
 /// What a response or data of a requester is to a watch.
-fn up_in(seen: &Seen, transaction: &Transaction, step: IdStep, tells: Tells) -> Event
+fn up_in(seen: &AnySeen, transaction: &Transaction, step: IdStep, tells: Tells) -> Event
     ensures { result ≡ up seen.now transaction.now.target transaction.now.address step tells }
 {
     up(seen, transaction.target, transaction.address, step, tells)
 }
 
 /// What a response or data of the home is to a watch.
-fn down_in(seen: &Seen, transaction: &Transaction, step: IdStep, tells: Tells) -> Event
+fn down_in(seen: &AnySeen, transaction: &Transaction, step: IdStep, tells: Tells) -> Event
     ensures { result ≡ down seen.now transaction.now.target transaction.now.address step tells }
 {
     down(seen, transaction.target, transaction.address, step, tells)
 }
 
-/// What a line of a trace is to a watch.
-/// Source: `docs/OBSERVER.md`, "A trace of many lines".
-pub fn event_of(seen: &Seen) -> Event
-    ensures { result ≡ event_of seen.now }
+/// What a request is to a watch.
+fn request_event(seen: &AnySeen, kind: Kind, fields: RequestFields) -> Event
+    ensures { result ≡ request_event seen.now kind fields }
+{
+    let told = request_told(kind, fields.spends);
+    up(seen, fields.target, None, request_step(kind, fields), told)
+}
+
+/// What a snoop is to a watch.
+fn snoop_event(seen: &AnySeen, snoop: Snoop, fields: SnoopFields) -> Event
+    ensures { result ≡ snoop_event seen.now snoop fields }
+{
+    let step = IdStep::Snoop(fields.txn, snoop, line_of(fields.address));
+    let told = Tells::Given(Grant::Snp(snoop), NO_DATA);
+    down(seen, fields.target, None, step, told)
+}
+
+/// What a read's data are to a watch.
+fn read_event(
+    seen: &AnySeen,
+    transaction: &Transaction,
+    resp: Resp,
+    dbid: Option<DbId>,
+    beat: &Beat,
+) -> Event
+    ensures { result ≡ read_event seen.now transaction.now resp dbid beat.now }
+{
+    let step = IdStep::ReadData(transaction.txn, dbid, beat.there);
+    down_in(seen, transaction, step, read_told(resp, beat))
+}
+
+/// What a flit of the profile is to a watch.
+fn profile_event(seen: &AnySeen, flit: &Flit) -> Event
+    ensures { result ≡ profile_event seen.now flit.now }
 {
     let source = seen.source;
-    match &seen.flit {
+    match flit {
         Flit::Request {
             kind,
             spends,
             target,
             txn,
             address,
-        } => up(
-            seen,
-            *target,
-            None,
-            request_step(*kind, *spends, *txn, *address),
-            request_told(*kind, *spends),
-        ),
+        } => {
+            let fields = RequestFields {
+                spends: *spends,
+                target: *target,
+                txn: *txn,
+                address: *address,
+            };
+            request_event(seen, kind_named(*kind), fields)
+        }
         Flit::PCrdReturn { pcrd, target } => {
             let sides = Sides {
                 requester: source,
@@ -271,13 +332,14 @@ pub fn event_of(seen: &Seen) -> Event
             target,
             txn,
             address,
-        } => down(
-            seen,
-            *target,
-            None,
-            IdStep::Snoop(*txn, *snoop, line_of(*address)),
-            Tells::Given(Grant::Snp(snoop_named(*snoop)), NO_DATA),
-        ),
+        } => {
+            let fields = SnoopFields {
+                target: *target,
+                txn: *txn,
+                address: *address,
+            };
+            snoop_event(seen, snoop_named(*snoop), fields)
+        }
         Flit::RetryAck { pcrd, transaction } => down_in(
             seen,
             transaction,
@@ -287,19 +349,19 @@ pub fn event_of(seen: &Seen) -> Event
         Flit::CompUC { dbid, transaction } => down_in(
             seen,
             transaction,
-            IdStep::Complete(transaction.txn, Some(*dbid)),
+            IdStep::CompleteWith(transaction.txn, Some(*dbid)),
             Tells::Given(Grant::CompUC, NO_DATA),
         ),
         Flit::Comp { resp, transaction } => down_in(
             seen,
             transaction,
-            IdStep::Complete(transaction.txn, None),
+            IdStep::Complete(transaction.txn),
             completion_told(*resp),
         ),
         Flit::CompDBIDResp { dbid, transaction } => down_in(
             seen,
             transaction,
-            IdStep::Complete(transaction.txn, Some(*dbid)),
+            IdStep::CompleteWith(transaction.txn, Some(*dbid)),
             Tells::Given(Grant::CompDBIDResp, NO_DATA),
         ),
         Flit::PCrdGrant { pcrd, target } => {
@@ -326,12 +388,7 @@ pub fn event_of(seen: &Seen) -> Event
             dbid,
             transaction,
             beat,
-        } => down_in(
-            seen,
-            transaction,
-            IdStep::ReadData(transaction.txn, *dbid, beat.there),
-            read_told(*resp, beat),
-        ),
+        } => read_event(seen, transaction, *resp, Some(*dbid), beat),
         Flit::SnpRespData {
             resp,
             transaction,
@@ -354,5 +411,42 @@ pub fn event_of(seen: &Seen) -> Event
         ),
         Flit::Load { .. } => Event::Access,
         Flit::Store { .. } => Event::Access,
+    }
+}
+
+/// What a line of a trace is to a watch.
+/// Source: `docs/OBSERVER.md`, "A trace of many lines".
+pub fn event_of(seen: &AnySeen) -> Event
+    ensures { result ≡ event_of seen.now }
+{
+    match &seen.flit {
+        AnyFlit::Profile(flit) => profile_event(seen, flit),
+        AnyFlit::Request { kind, fields } => {
+            request_event(seen, other_kind_named(*kind), *fields)
+        }
+        AnyFlit::Snoop { snoop, fields } => {
+            snoop_event(seen, other_snoop_named(*snoop), *fields)
+        }
+        AnyFlit::CompUC { transaction } => down_in(
+            seen,
+            transaction,
+            IdStep::CompleteWith(transaction.txn, None),
+            Tells::Given(Grant::CompUC, NO_DATA),
+        ),
+        AnyFlit::CompData {
+            resp,
+            transaction,
+            beat,
+        } => read_event(seen, transaction, *resp, None, beat),
+        AnyFlit::NonCopyBackWrData {
+            resp,
+            transaction,
+            beat,
+        } => up_in(
+            seen,
+            transaction,
+            IdStep::WriteData(named_buffer(transaction), beat.there),
+            whole_written_told(*resp, beat),
+        ),
     }
 }

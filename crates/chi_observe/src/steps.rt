@@ -3,12 +3,14 @@
 ghost use Rattle.std.specs.Prelude.{◌≡◌};
 ghost use Rattle.std.specs.List.{count_by};
 ghost use Rattle.chi_observe.specs.Ids.{opened_id};
-ghost use Rattle.chi_observe.specs.Steps.{acknowledged, again_of, attempt_of, attempts, beat_of, booking_of, change_of, completed, freed, granted, is_attempt, is_again, joined, joined_by, lacks_some, left_of, named, new_buffer, new_id, plain_change, read_data, retried, returned, right_type, snooped, table_of, waiting_of, lacking, early_of, is_word_again, attempted_kind};
+ghost use Rattle.chi_observe.specs.Steps.{acknowledged, again_of, attempt_of, attempts, beat_of, booking_of, change_of, completed, freed, first_beat, granted, is_attempt, is_again, kept_with, lacks_some, later_beat, left_of, named, new_buffer, new_id, plain_change, read_data, retried, returned, right_type, snooped, table_of, told_with, waiting_of, word_with, words_with, lacking, early_of, is_word_again, attempted_kind};
 
 use crate::credits::{AccountTable, Booking, CreditEvent, CreditTypes, find_account};
+use crate::events::Tells;
 use crate::ids::{CacheLine, IdKey, IdTable, OpenId, Purpose, Sides, find_id, opened_id};
 use crate::reasons::IdReason;
-use chi_flit::{Kind, Snoop};
+use chi_flit::Data;
+use chi_observer::{Kind, Snoop};
 use chi_trace::{DbId, PcrdType, TxnId};
 use std::alloc::Allocator;
 
@@ -31,10 +33,12 @@ pub enum IdStep {
     Again(TxnId, Kind, CacheLine, PcrdType),
     Snoop(TxnId, Snoop, CacheLine),
     RetryAck(TxnId, PcrdType),
-    /// A completion without data, which opens a DBID or doesn't.
-    Complete(TxnId, Option<DbId>),
-    /// A beat of a read's data: which words it has.
-    ReadData(TxnId, DbId, [bool; 8]),
+    /// A completion without data that names no DBID.
+    Complete(TxnId),
+    /// One that names a DBID where a CompAck or write data follow.
+    CompleteWith(TxnId, Option<DbId>),
+    /// A beat of a read's data: which words it has. It names a DBID where a CompAck follows.
+    ReadData(TxnId, Option<DbId>, [bool; 8]),
     /// An answer without data.
     Answer(TxnId),
     /// A beat of an answer.
@@ -43,6 +47,19 @@ pub enum IdStep {
     Acknowledge(DbId),
     /// A beat of write data.
     WriteData(DbId, [bool; 8]),
+}
+
+/// What part of its data a flit is.
+#[derive(Clone, Copy)]
+pub(crate) enum Part {
+    /// All, or the flit has none.
+    Whole,
+    /// The first beat: other words lack.
+    First,
+    /// A later one, behind which words lack.
+    Further,
+    /// The last one: what the data tell, with all words.
+    Last(Tells),
 }
 
 /// What a flit of a line does to ids and credits.
@@ -55,8 +72,7 @@ pub(crate) struct Change {
     pub keeps: Option<OpenId>,
     pub opens: Option<OpenId>,
     pub books: Option<Booking>,
-    /// It is a further beat of data.
-    pub further: bool,
+    pub part: Part,
 }
 
 /// What is open.
@@ -77,7 +93,7 @@ fn plain_change(line: CacheLine) -> Change
         keeps: None,
         opens: None,
         books: None,
-        further: false,
+        part: Part::Whole,
     }
 }
 
@@ -143,35 +159,84 @@ fn lacks_some(left: &[bool; 8]) -> bool
     left.iter().any(|lacks| *lacks)
 }
 
-/// The data of the id, of which these words lack then.
-fn joined_by(found: &OpenId, left: [bool; 8], further: bool) -> Change
-    ensures { result ≡ joined_by found.now left further }
+/// A word of data behind a beat: the beat's, where it has it.
+fn word_with(old: u64, new: u64, there: bool) -> u64
+    ensures { result ≡ word_with old new there }
 {
-    let line = found.line;
+    if there { new } else { old }
+}
+
+/// The words of data behind a beat.
+fn words_with(old: &Data, new: &Data, there: &[bool; 8]) -> Data
+    ensures { result ≡ words_with old.now new.now there.now }
+{
+    [
+        word_with(old[0], new[0], there[0]),
+        word_with(old[1], new[1], there[1]),
+        word_with(old[2], new[2], there[2]),
+        word_with(old[3], new[3], there[3]),
+        word_with(old[4], new[4], there[4]),
+        word_with(old[5], new[5], there[5]),
+        word_with(old[6], new[6], there[6]),
+        word_with(old[7], new[7], there[7]),
+    ]
+}
+
+/// What data tell behind a beat with such words: in the form of their first beat.
+fn told_with(begun: Tells, beat: Tells, there: &[bool; 8]) -> Tells
+    ensures { result ≡ told_with begun beat there.now }
+{
+    begun.with_words(words_with(&begun.words(), &beat.words(), there))
+}
+
+/// The id's data lack these words yet, and tell this.
+fn kept_with(found: &OpenId, left: [bool; 8], tells: Tells) -> OpenId
+    ensures { result ≡ kept_with found.now left tells }
+{
+    OpenId {
+        lacks: Some(left),
+        begun: Some(tells),
+        ..*found
+    }
+}
+
+/// The id's first beat, behind which these words lack.
+fn first_beat(found: &OpenId, left: [bool; 8], tells: Tells) -> Change
+    ensures { result ≡ first_beat found.now left tells }
+{
+    let change = plain_change(found.line);
     if lacks_some(&left) {
-        let keeps = OpenId {
-            lacks: Some(left),
-            ..*found
-        };
         Change {
-            keeps: Some(keeps),
-            further,
-            ..plain_change(line)
+            keeps: Some(kept_with(found, left, tells)),
+            part: Part::First,
+            ..change
         }
     } else {
         Change {
             frees: Some(found.key),
-            further,
-            ..plain_change(line)
+            ..change
         }
     }
 }
 
-/// The data of the id behind a beat of these words, of which these lacked before.
-fn joined(found: &OpenId, lacks: &[bool; 8], there: &[bool; 8], further: bool) -> Change
-    ensures { result ≡ joined found.now lacks.now there.now further }
+/// A later beat of the id, behind which these words lack and the data tell this.
+fn later_beat(found: &OpenId, left: [bool; 8], tells: Tells) -> Change
+    ensures { result ≡ later_beat found.now left tells }
 {
-    joined_by(found, left_of(lacks, there), further)
+    let change = plain_change(found.line);
+    if lacks_some(&left) {
+        Change {
+            keeps: Some(kept_with(found, left, tells)),
+            part: Part::Further,
+            ..change
+        }
+    } else {
+        Change {
+            frees: Some(found.key),
+            part: Part::Last(tells),
+            ..change
+        }
+    }
 }
 
 /// Whether the id is that of a first attempt between these nodes.
@@ -312,7 +377,7 @@ impl<A: Allocator> Tables<'_, A> {
         })
     }
 
-    /// The DBID that a completion opens, if it opens one.
+    /// The DBID that a completion opens, where a CompAck or write data follow.
     fn new_buffer(
         &self,
         sides: Sides,
@@ -321,18 +386,17 @@ impl<A: Allocator> Tables<'_, A> {
     ) -> Result<Option<OpenId>, IdReason>
         ensures { result ≡ new_buffer (table_of self.now) sides found.now dbid }
     {
-        match dbid {
-            Some(dbid) => {
-                let key = self.new_id(IdKey::Buffer(sides, dbid))?;
-                Ok(Some(opened_id(key, found.line, found.purpose)))
-            }
-            None => Ok(None),
+        if !found.purpose.is_kept_for() {
+            return Ok(None);
         }
+        let dbid = dbid.ok_or(IdReason::NoDbid(found.key))?;
+        let key = self.new_id(IdKey::Buffer(sides, dbid))?;
+        Ok(Some(opened_id(key, found.line, found.purpose)))
     }
 
-    /// A completion without data.
+    /// A completion without data that may open a DBID.
     #[tactic(auto, unfolding(crate::specs::Steps::completed))]
-    fn complete(
+    fn complete_with(
         &self,
         sides: Sides,
         txn: TxnId,
@@ -351,7 +415,7 @@ impl<A: Allocator> Tables<'_, A> {
         })
     }
 
-    /// A flit that frees an id, and has no data.
+    /// A flit that frees an id, and neither has data nor opens another.
     fn acknowledge(&self, key: IdKey, at: Option<CacheLine>) -> Result<Change, IdReason>
         ensures { result ≡ acknowledged (table_of self.now) key at }
     {
@@ -363,17 +427,24 @@ impl<A: Allocator> Tables<'_, A> {
     }
 
     /// A beat of data: it frees the id where no word lacks any more.
-    fn beat(&self, key: IdKey, there: &[bool; 8], at: Option<CacheLine>) -> Result<Change, IdReason>
-        ensures { result ≡ beat_of (table_of self.now) key there.now at }
+    fn beat(
+        &self,
+        key: IdKey,
+        there: &[bool; 8],
+        at: Option<CacheLine>,
+        tells: Tells,
+    ) -> Result<Change, IdReason>
+        ensures { result ≡ beat_of (table_of self.now) key there.now at tells }
     {
         let found = self.named(key, at)?;
         match found.lacks {
-            None => Ok(joined(&found, &[true; 8], there, false)),
+            None => Ok(first_beat(&found, left_of(&[true; 8], there), tells)),
             Some(lacks) => {
                 if is_again(&lacks, there) {
                     return Err(IdReason::WordAgain(key));
                 }
-                Ok(joined(&found, &lacks, there, true))
+                let told = told_with(found.begun.unwrap_or(tells), tells, there);
+                Ok(later_beat(&found, left_of(&lacks, there), told))
             }
         }
     }
@@ -384,20 +455,23 @@ impl<A: Allocator> Tables<'_, A> {
         &self,
         sides: Sides,
         txn: TxnId,
-        dbid: DbId,
+        dbid: Option<DbId>,
         there: &[bool; 8],
         at: Option<CacheLine>,
+        tells: Tells,
     ) -> Result<Change, IdReason>
-        ensures { result ≡ read_data (table_of self.now) sides txn dbid there.now at }
+        ensures { result ≡ read_data (table_of self.now) sides txn dbid there.now at tells }
     {
         let key = IdKey::Request(sides, txn);
         let found = self.named(key, at)?;
-        let change = self.beat(key, there, at)?;
-        if change.further {
-            return Ok(change);
+        let change = self.beat(key, there, at, tells)?;
+        match change.part {
+            Part::Further | Part::Last(_) => Ok(change),
+            Part::Whole | Part::First => {
+                let opens = self.new_buffer(sides, &found, dbid)?;
+                Ok(Change { opens, ..change })
+            }
         }
-        let opens = self.new_buffer(sides, &found, Some(dbid))?;
-        Ok(Change { opens, ..change })
     }
 
     /// One more in the account of the nodes and the type.
@@ -455,26 +529,38 @@ impl<A: Allocator> Tables<'_, A> {
     }
 
     /// What a flit of a line does to ids and credits, or why they don't allow it. `at` is the line of its address, if it
-    /// has one.
+    /// has one, and `tells` what it tells of its line.
     pub(crate) fn change(
         &self,
         sides: Sides,
         step: &IdStep,
         at: Option<CacheLine>,
+        tells: Tells,
     ) -> Result<Change, IdReason>
-        ensures { result ≡ change_of self.now.options (table_of self.now) sides step.now at }
+        ensures { result ≡ change_of self.now.options (table_of self.now) sides step.now at tells }
     {
         match step {
             IdStep::Attempt(txn, kind, line) => self.attempt(sides, *txn, *kind, *line),
             IdStep::Again(txn, kind, line, pcrd) => self.again(sides, *txn, *kind, *line, *pcrd),
             IdStep::Snoop(txn, snoop, line) => self.snoop(sides, *txn, *snoop, *line),
             IdStep::RetryAck(txn, pcrd) => self.retry(sides, *txn, *pcrd, at),
-            IdStep::Complete(txn, dbid) => self.complete(sides, *txn, *dbid, at),
-            IdStep::ReadData(txn, dbid, there) => self.read(sides, *txn, *dbid, there, at),
+            IdStep::Complete(txn) => self.acknowledge(IdKey::Request(sides, *txn), at),
+            IdStep::CompleteWith(txn, dbid) => self.complete_with(sides, *txn, *dbid, at),
+            IdStep::ReadData(txn, dbid, there) => self.read(sides, *txn, *dbid, there, at, tells),
             IdStep::Answer(txn) => self.acknowledge(IdKey::Snoop(sides, *txn), at),
-            IdStep::AnswerData(txn, there) => self.beat(IdKey::Snoop(sides, *txn), there, at),
+            IdStep::AnswerData(txn, there) => self.beat(
+                IdKey::Snoop(sides, *txn),
+                there,
+                at,
+                tells,
+            ),
             IdStep::Acknowledge(dbid) => self.acknowledge(IdKey::Buffer(sides, *dbid), at),
-            IdStep::WriteData(dbid, there) => self.beat(IdKey::Buffer(sides, *dbid), there, at),
+            IdStep::WriteData(dbid, there) => self.beat(
+                IdKey::Buffer(sides, *dbid),
+                there,
+                at,
+                tells,
+            ),
         }
     }
 }

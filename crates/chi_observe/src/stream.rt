@@ -8,7 +8,7 @@ ghost use Rattle.chi_observe.specs.Watched.{watched};
 use crate::seen::event_of;
 use crate::watch::{Watch, WatchFault, WatchStop};
 use chi_script::{Failed, Fault, Input, first_line};
-use chi_trace::{Seen, TraceFault, flit_in};
+use chi_trace::{AnySeen, TraceFault, any_flit_in};
 use std::alloc::{AllocError, Allocator};
 
 /// Why a trace isn't accepted.
@@ -27,7 +27,7 @@ pub enum TextStop {
     /// It is none.
     Malformed(TraceFault),
     /// Its flit isn't taken, for this reason.
-    Untaken(Seen, WatchFault),
+    Untaken(AnySeen, WatchFault),
     /// Memory ran out.
     NoMemory,
 }
@@ -64,7 +64,7 @@ impl From<AllocError> for TextStop {
 fn take_text<A: Allocator>(watch: &mut Watch<A>, line: &[u8], number: usize) -> Result<(), TextStop>
     ensures { IsTextTaken (watched watch.old) (watched watch.new) number line.now result }
 {
-    match flit_in(line, number) {
+    match any_flit_in(line, number) {
         Ok(Some(seen)) => take_seen(watch, seen),
         Ok(None) => Ok(()),
         Err(fault) => Err(TextStop::Malformed(fault)),
@@ -72,7 +72,7 @@ fn take_text<A: Allocator>(watch: &mut Watch<A>, line: &[u8], number: usize) -> 
 }
 
 /// Takes a flit.
-fn take_seen<A: Allocator>(watch: &mut Watch<A>, seen: Seen) -> Result<(), TextStop>
+fn take_seen<A: Allocator>(watch: &mut Watch<A>, seen: AnySeen) -> Result<(), TextStop>
     ensures { IsSeenTaken (watched watch.old) (watched watch.new) seen result }
 {
     match watch.take(&event_of(&seen)) {

@@ -57,6 +57,7 @@ impl fmt::Display for IdText {
                 let pcrd = pcrd.0;
                 write!(f, "it has no credit of type {pcrd:x}")
             }
+            IdReason::NoDbid(_) => f.write_str("its request needs a DBID"),
             IdReason::Form(resp) => write!(f, "no flit of the opcode has RESP {resp}"),
         }
     }
@@ -313,7 +314,8 @@ impl<A: Allocator> Watch<A> {
             IdStep::Again(_, _, line, _) => return Some(line),
             IdStep::Snoop(_, _, line) => return Some(line),
             IdStep::RetryAck(txn, _) => IdKey::Request(sides, txn),
-            IdStep::Complete(txn, _) => IdKey::Request(sides, txn),
+            IdStep::Complete(txn) => IdKey::Request(sides, txn),
+            IdStep::CompleteWith(txn, _) => IdKey::Request(sides, txn),
             IdStep::ReadData(txn, _, _) => IdKey::Request(sides, txn),
             IdStep::Answer(txn) => IdKey::Snoop(sides, txn),
             IdStep::AnswerData(txn, _) => IdKey::Snoop(sides, txn),

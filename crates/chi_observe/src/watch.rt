@@ -9,14 +9,13 @@ ghost use Rattle.chi_observe.specs.Steps.{granted, ids_after, returned};
 ghost use Rattle.chi_observe.specs.Watched.{IsCreditWatched, IsFlitWatched, IsWatched, access_after, allowed, booking_after, counts_after, counts_aside, counts_first, mark_of, nothing_watched, settled, table_in, watched};
 
 use crate::credits::{AccountTable, Booking, account_numbers};
-use crate::events::{Event, LineEvent, Tells, flit_by};
+use crate::events::{Event, LineEvent, Tells, news_of};
 use crate::ids::{CacheLine, IdKey, IdTable, OpenId, Sides, numbers_of};
-use crate::lines::{LineStop, LineTable, is_aside, tell};
+use crate::lines::{LineNews, LineStop, LineTable, is_aside, is_put_aside, tell};
 use crate::nodes::{add_home, add_requester, agent_of};
 use crate::reasons::{IdReason, LineReason};
-use crate::steps::{Change, Tables, WatchOptions};
+use crate::steps::{Change, Part, Tables, WatchOptions};
 use chi_flit::Agent;
-use chi_observer::Flit;
 use chi_trace::{NodeId, PcrdType};
 use indexmap::IndexMap;
 use std::alloc::{AllocError, Allocator};
@@ -34,7 +33,7 @@ pub struct Aside {
 /// Source: `docs/OBSERVER.md`, "A trace of many lines".
 #[derive(Clone, Copy, Debug, PartialEq, Eq)]
 pub struct Counts {
-    /// Flits, but for further beats.
+    /// Flits; data that come in beats are one.
     pub flits: u64,
     /// Loads and stores.
     pub accesses: u64,
@@ -122,25 +121,28 @@ impl Counts {
         }
     }
 
-    /// The counts behind a flit.
-    fn with_flit(self, aside: Option<Aside>, fresh: bool) -> Option<Counts>
-        ensures { IfSome result (λ counts. counts ≡ counts_after aside fresh self) }
+    /// The counts behind a flit, or the last beat of one.
+    fn with_flit(self, part: Part, aside: Option<Aside>, fresh: bool) -> Option<Counts>
+        ensures { IfSome result (λ counts. counts ≡ counts_after part aside fresh self) }
     {
-        let counts = self.with_first(fresh)?;
+        let counts = match part {
+            Part::Whole | Part::First => self.with_first(fresh)?,
+            Part::Further | Part::Last(_) => self,
+        };
         counts.with_aside(aside)
     }
 }
 
-/// The line that a flit which isn't judged sets aside, if it isn't already.
+/// The line that this sets aside, if it isn't already.
 fn mark_of<A: Allocator>(
     lines: &LineTable<A>,
     line: CacheLine,
-    flit: Option<Flit>,
+    news: LineNews,
     number: usize,
 ) -> Option<Aside>
-    ensures { result ≡ mark_of (lines_in lines.now.entries) line flit number }
+    ensures { result ≡ mark_of (lines_in lines.now.entries) line news number }
 {
-    if flit.is_some() || is_aside(lines, line) {
+    if is_aside(lines, line) || !is_put_aside(lines, line, news) {
         None
     } else {
         Some(Aside { number, line })
@@ -244,8 +246,9 @@ impl<A: Allocator> Watch<A> {
     {
         match event.tells {
             Tells::NoForm(resp) => Err(IdReason::Form(resp)),
-            Tells::Sent(_, _) | Tells::Given(_, _) | Tells::Unjudged => {
-                self.tables().change(event.sides, &event.step, event.at)
+            Tells::Sent(_, _) | Tells::Given(_, _) => {
+                self.tables()
+                    .change(event.sides, &event.step, event.at, event.tells)
             }
         }
     }
@@ -308,7 +311,7 @@ impl<A: Allocator> Watch<A> {
         ensures { OnOk result
             (watched self.new ≡ settled (watched self.old) sides change.now agent mark fresh) }
     {
-        let Some(counts) = self.counts.with_flit(mark, fresh) else {
+        let Some(counts) = self.counts.with_flit(change.part, mark, fresh) else {
             return Err(AllocError);
         };
         add_requester(&mut self.requesters, agent, sides.requester)?;
@@ -323,13 +326,13 @@ impl<A: Allocator> Watch<A> {
     fn take_allowed(&mut self, event: &LineEvent, change: &Change) -> Result<(), WatchStop>
         ensures { IsFlitWatched (watched self.old) (watched self.new) event.now change.now result }
     {
-        if change.further {
+        if matches!(change.part, Part::Further) {
             return Ok(change_ids(&mut self.ids, change)?);
         }
         let agent = agent_of(&self.requesters, &self.homes, event.sides);
-        let flit = flit_by(event.tells, agent);
-        let mark = mark_of(&self.lines, change.line, flit, event.number);
-        match tell(&mut self.lines, change.line, event.sides.home, flit) {
+        let news = news_of(event.tells, change.part, agent);
+        let mark = mark_of(&self.lines, change.line, news, event.number);
+        match tell(&mut self.lines, change.line, event.sides.home, news) {
             Ok(fresh) => Ok(self.settle(event.sides, change, agent, mark, fresh)?),
             Err(LineStop::Refused(reason)) => Err(WatchStop::Fault(WatchFault::Line(reason))),
             Err(LineStop::NoMemory) => Err(WatchStop::NoMemory),

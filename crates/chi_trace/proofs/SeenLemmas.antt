@@ -14,15 +14,17 @@ use Rattle.chi_trace.specs.declared.fields.Resp.TheVariants.{UC}
 use Rattle.chi_trace.specs.declared.fields.TxnId.{TxnId}
 use Rattle.chi_trace.specs.declared.flits.Flit.{Flit}
 use Rattle.chi_trace.specs.declared.flits.Flit.TheVariants as flits
+use Rattle.chi_trace.specs.declared.flits.RequestFields.{RequestFields}
 use Rattle.chi_trace.specs.declared.flits.Seen.{Seen}
+use Rattle.chi_trace.specs.declared.flits.SnoopFields.{SnoopFields}
 use Rattle.chi_trace.specs.declared.flits.Transaction.{Transaction}
 use Rattle.chi_trace.specs.declared.opcodes.Opcode.{Opcode}
 use Rattle.chi_trace.specs.declared.opcodes.Opcode.TheVariants as opcodes
 use Rattle.chi_trace.specs.Columns.{Row}
 use Rattle.chi_trace.specs.Fields.{address_of, beat_of, dbid_of, node_of, pcrd_of, resp_of, txn_of, value_of, written_of}
-use Rattle.chi_trace.specs.Flits.{ack_in, address_in, allow_in, answer_in, beat_in, comp_by, comp_dbid_in, comp_in, dbid_in, flit_by, flit_opcode, grant_in, load_in, named_in, opcode_of, pcrd_in, read_data_in, request_in, resp_in, retry_in, return_in, seen_in, snoop_data_in, snoop_in, source_in, spent_by, store_in, target_in, transaction_in, txn_in, value_in, write_data_in, written_in}
+use Rattle.chi_trace.specs.Flits.{ack_in, address_in, allow_in, answer_in, beat_in, comp_by, comp_dbid_in, comp_in, dbid_in, flit_by, flit_opcode, grant_in, load_in, named_in, opcode_of, pcrd_in, read_data_in, request_fields_in, request_in, resp_in, retry_in, return_in, seen_in, snoop_data_in, snoop_fields_in, snoop_in, source_in, spent_by, store_in, target_in, transaction_in, txn_in, value_in, write_data_in, written_in}
 use Rattle.chi_trace.specs.Opcodes.{channel_word, opcode_channel, opcode_text}
-use Rattle.chi_trace.specs.Spelling.{HasColumns, IsAddress, IsBeat, IsDbid, IsFlit, IsNode, IsPcrd, IsResp, IsTransaction, IsTxn, IsValue, is_unique}
+use Rattle.chi_trace.specs.Spelling.{HasColumns, IsAddress, IsBeat, IsDbid, IsFlit, IsNode, IsPcrd, IsResp, IsSpent, IsTransaction, IsTxn, IsValue, is_unique}
 use Rattle.chi_trace.proofs.DataLemmas.{beat_again, beat_read, written_again, written_read}
 use Rattle.chi_trace.proofs.FieldLemmas.{address_again, address_read, dbid_again, dbid_read, given, named_again, named_read, node_again, node_read, pcrd_again, pcrd_read, resp_again, resp_read, spent_again, spent_read, taken, txn_again, txn_read}
 use Rattle.chi_trace.proofs.HexLemmas.{hex_again, hex_read}
@@ -67,19 +69,53 @@ record IsRead (opcode : Opcode) (flit : Flit) (row : Row) : Type 0 where
   named : flit_opcode flit ≡ opcode
   columns : HasColumns flit row
 
-request_read : (kind : Kind) (row : Row) (flit : Flit) → request_in kind row ≡ Ok flit → IsRead (opcodes.Request kind) flit row
-unfolding request_in
-request_read kind row flit e =
-    let target = bound (target_in row) _ flit e in
-    let txn = bound (txn_in row) _ flit target.2 in
-    let address = bound (address_in row) _ flit txn.2 in
-    let allow = bound (allow_in row) _ flit address.2 in
-    let spends = bound (spent_by allow.0 row) _ flit allow.2 in
-    let same : flits.Request kind spends.0 target.0 txn.0 address.0 ≡ flit = let last = spends.2 in cc in
-    subst (λ (f : Flit). IsRead (opcodes.Request kind) f row) same (record {
-      named = refl;
-      columns = (target_read row target.0 target.1, txn_read_in row txn.0 txn.1, address_read_in row address.0 address.1, spent_read allow.0 row spends.0 allow.1 spends.1);
+-- the columns of a request and of a snoop, read
+record AreRequestFields (fields : RequestFields) (row : Row) : Type 0 where
+  target : IsNode fields.target row.target
+  txn : IsTxn fields.txn row.txn
+  address : IsAddress fields.address row.address
+  spends : IsSpent fields.spends row
+
+request_fields_read : (row : Row) (fields : RequestFields) → request_fields_in row ≡ Ok fields → AreRequestFields fields row
+unfolding request_fields_in
+request_fields_read row fields e =
+    let target = bound (target_in row) _ fields e in
+    let txn = bound (txn_in row) _ fields target.2 in
+    let address = bound (address_in row) _ fields txn.2 in
+    let allow = bound (allow_in row) _ fields address.2 in
+    let spends = bound (spent_by allow.0 row) _ fields allow.2 in
+    let same : record { spends = spends.0; target = target.0; txn = txn.0; address = address.0 } ≡ fields = let last = spends.2 in cc in
+    subst (λ (f : RequestFields). AreRequestFields f row) same (record {
+      target = target_read row target.0 target.1;
+      txn = txn_read_in row txn.0 txn.1;
+      address = address_read_in row address.0 address.1;
+      spends = spent_read allow.0 row spends.0 allow.1 spends.1;
     })
+
+record AreSnoopFields (fields : SnoopFields) (row : Row) : Type 0 where
+  target : IsNode fields.target row.target
+  txn : IsTxn fields.txn row.txn
+  address : IsAddress fields.address row.address
+
+snoop_fields_read : (row : Row) (fields : SnoopFields) → snoop_fields_in row ≡ Ok fields → AreSnoopFields fields row
+unfolding snoop_fields_in
+snoop_fields_read row fields e =
+    let target = bound (target_in row) _ fields e in
+    let txn = bound (txn_in row) _ fields target.2 in
+    let address = bound (address_in row) _ fields txn.2 in
+    let same : record { target = target.0; txn = txn.0; address = address.0 } ≡ fields = let last = address.2 in cc in
+    subst (λ (f : SnoopFields). AreSnoopFields f row) same (record {
+      target = target_read row target.0 target.1;
+      txn = txn_read_in row txn.0 txn.1;
+      address = address_read_in row address.0 address.1;
+    })
+
+request_read : (kind : Kind) (row : Row) (flit : Flit) → request_in kind row ≡ Ok flit → IsRead (opcodes.Request kind) flit row
+request_read kind row flit e =
+    let fields = bound (request_fields_in row) _ flit e in
+    let are = request_fields_read row fields.0 fields.1 in
+    let same : flits.Request kind fields.0.spends fields.0.target fields.0.txn fields.0.address ≡ flit = let last = fields.2 in cc in
+    subst (λ (f : Flit). IsRead (opcodes.Request kind) f row) same (record { named = refl; columns = (are.target, are.txn, are.address, are.spends) })
 
 comp_case : (resp : Resp) (transaction : Transaction) (row : Row) (flit : Flit) → is_unique resp ≡ false → ◌≡◌ {A = Result Flit Column} (Ok (flits.Comp resp transaction)) (Ok flit) → IsTransaction transaction row → IsResp resp row.resp → IsRead opcodes.Comp flit row
 comp_case resp transaction row flit other e is_transaction is_resp =
@@ -124,13 +160,11 @@ return_read row flit e =
     subst (λ (f : Flit). IsRead opcodes.PCrdReturn f row) same (record { named = refl; columns = (target_read row target.0 target.1, pcrd_read_in row pcrd.0 pcrd.1) })
 
 snoop_read : (snoop : Snoop) (row : Row) (flit : Flit) → snoop_in snoop row ≡ Ok flit → IsRead (opcodes.Snoop snoop) flit row
-unfolding snoop_in
 snoop_read snoop row flit e =
-    let target = bound (target_in row) _ flit e in
-    let txn = bound (txn_in row) _ flit target.2 in
-    let address = bound (address_in row) _ flit txn.2 in
-    let same : flits.Snoop snoop target.0 txn.0 address.0 ≡ flit = let last = address.2 in cc in
-    subst (λ (f : Flit). IsRead (opcodes.Snoop snoop) f row) same (record { named = refl; columns = (target_read row target.0 target.1, txn_read_in row txn.0 txn.1, address_read_in row address.0 address.1) })
+    let fields = bound (snoop_fields_in row) _ flit e in
+    let are = snoop_fields_read row fields.0 fields.1 in
+    let same : flits.Snoop snoop fields.0.target fields.0.txn fields.0.address ≡ flit = let last = fields.2 in cc in
+    subst (λ (f : Flit). IsRead (opcodes.Snoop snoop) f row) same (record { named = refl; columns = (are.target, are.txn, are.address) })
 
 retry_read : (row : Row) (flit : Flit) → retry_in row ≡ Ok flit → IsRead opcodes.RetryAck flit row
 unfolding retry_in
@@ -251,12 +285,22 @@ comp_again : (resp : Resp) (transaction : Transaction) (row : Row) → is_unique
 comp_again UC transaction row other = cc
 comp_again resp transaction row other = refl
 
+request_fields_again : (fields : RequestFields) (row : Row) → AreRequestFields fields row → request_fields_in row ≡ Ok fields
+unfolding request_fields_in
+request_fields_again fields row are =
+    rw (node_again fields.target row.target are.target, txn_again fields.txn row.txn are.txn, address_again fields.address row.address are.address) (spent_again fields.spends row (λ s. Ok (record fields { spends = s })) are.spends)
+
+snoop_fields_again : (fields : SnoopFields) (row : Row) → AreSnoopFields fields row → snoop_fields_in row ≡ Ok fields
+unfolding snoop_fields_in
+snoop_fields_again fields row are = rw (node_again fields.target row.target are.target, txn_again fields.txn row.txn are.txn, address_again fields.address row.address are.address) refl
+
 by_again : (flit : Flit) (row : Row) → HasColumns flit row → flit_by (flit_opcode flit) row ≡ Ok flit
-unfolding request_in return_in snoop_in retry_in comp_in comp_dbid_in grant_in answer_in ack_in read_data_in snoop_data_in write_data_in load_in store_in
+unfolding return_in retry_in comp_in comp_dbid_in grant_in answer_in ack_in read_data_in snoop_data_in write_data_in load_in store_in
 by_again (flits.Request kind spends target txn address) row is =
-    rw (node_again target row.target is.0, txn_again txn row.txn is.1, address_again address row.address is.2) (spent_again spends row (λ s. Ok (flits.Request kind s target txn address)) is.3)
+    rw (request_fields_again (record { spends = spends; target = target; txn = txn; address = address }) row (record { target = is.0; txn = is.1; address = is.2; spends = is.3 })) refl
 by_again (flits.PCrdReturn pcrd target) row is = rw (node_again target row.target is.0, pcrd_again pcrd row.pcrd is.1) refl
-by_again (flits.Snoop snoop target txn address) row is = rw (node_again target row.target is.0, txn_again txn row.txn is.1, address_again address row.address is.2) refl
+by_again (flits.Snoop snoop target txn address) row is =
+    rw (snoop_fields_again (record { target = target; txn = txn; address = address }) row (record { target = is.0; txn = is.1; address = is.2 })) refl
 by_again (flits.RetryAck pcrd transaction) row is = rw (transaction_again transaction row is.0, pcrd_again pcrd row.pcrd is.1) refl
 by_again (flits.CompUC dbid transaction) row is = rw (transaction_again transaction row is.0, resp_again UC row.resp is.1, dbid_again dbid row.dbid is.2) refl
 by_again (flits.Comp resp transaction) row is = rw (transaction_again transaction row is.0, resp_again resp row.resp is.1) (comp_again resp transaction row is.2)

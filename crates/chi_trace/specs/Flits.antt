@@ -16,7 +16,9 @@ use Rattle.chi_trace.specs.declared.fields.Resp.TheVariants.{UC}
 use Rattle.chi_trace.specs.declared.fields.TxnId.{TxnId}
 use Rattle.chi_trace.specs.declared.flits.Flit.{Flit}
 use Rattle.chi_trace.specs.declared.flits.Flit.TheVariants as flits
+use Rattle.chi_trace.specs.declared.flits.RequestFields.{RequestFields}
 use Rattle.chi_trace.specs.declared.flits.Seen.{Seen}
+use Rattle.chi_trace.specs.declared.flits.SnoopFields.{SnoopFields}
 use Rattle.chi_trace.specs.declared.flits.Transaction.{Transaction}
 use Rattle.chi_trace.specs.declared.opcodes.Opcode.{Opcode}
 use Rattle.chi_trace.specs.declared.opcodes.Opcode.TheVariants as opcodes
@@ -89,14 +91,17 @@ comp_by UC transaction row = dbid_in row >>= λ dbid. Ok (flits.CompUC dbid tran
 comp_by resp transaction row = Ok (flits.Comp resp transaction)
 
 -- the flit of each opcode, by its columns in their order
-unfoldable pub request_in : Kind → Row → Result Flit Column
-request_in kind row = do
+unfoldable pub request_fields_in : Row → Result RequestFields Column
+request_fields_in row = do
   target ← target_in row
   txn ← txn_in row
   address ← address_in row
   allow ← allow_in row
   spends ← spent_by allow row
-  Ok (flits.Request kind spends target txn address)
+  Ok (record { spends = spends; target = target; txn = txn; address = address })
+
+abbrev pub request_in : Kind → Row → Result Flit Column
+request_in kind row = request_fields_in row >>= λ f. Ok (flits.Request kind f.spends f.target f.txn f.address)
 
 unfoldable pub return_in : Row → Result Flit Column
 return_in row = do
@@ -104,12 +109,15 @@ return_in row = do
   pcrd ← pcrd_in row
   Ok (flits.PCrdReturn pcrd target)
 
-unfoldable pub snoop_in : Snoop → Row → Result Flit Column
-snoop_in snoop row = do
+unfoldable pub snoop_fields_in : Row → Result SnoopFields Column
+snoop_fields_in row = do
   target ← target_in row
   txn ← txn_in row
   address ← address_in row
-  Ok (flits.Snoop snoop target txn address)
+  Ok (record { target = target; txn = txn; address = address })
+
+abbrev pub snoop_in : Snoop → Row → Result Flit Column
+snoop_in snoop row = snoop_fields_in row >>= λ f. Ok (flits.Snoop snoop f.target f.txn f.address)
 
 unfoldable pub retry_in : Row → Result Flit Column
 retry_in row = do

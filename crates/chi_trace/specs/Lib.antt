@@ -4,6 +4,8 @@ pub mod Columns
 pub mod Fields
 pub mod Opcodes
 pub mod Flits
+pub mod AnyOpcodes
+pub mod AnyFlits
 pub mod Faults
 pub mod Files
 pub mod Spelling

@@ -33,6 +33,27 @@ pub struct Transaction {
     pub address: Option<Address>,
 }
 
+/// What a request has beside its kind.
+/// Source: `docs/TRACES.md`, "Traces".
+#[derive(Clone, Copy, Debug, PartialEq, Eq)]
+pub struct RequestFields {
+    /// The type of the credit that it spends; `None` where it asserts AllowRetry.
+    pub spends: Option<PcrdType>,
+    pub target: NodeId,
+    pub txn: TxnId,
+    pub address: Address,
+}
+
+/// What a snoop has beside its opcode.
+/// Source: `docs/TRACES.md`, "Traces".
+#[derive(Clone, Copy, Debug, PartialEq, Eq)]
+pub struct SnoopFields {
+    /// The requester that it asks.
+    pub target: NodeId,
+    pub txn: TxnId,
+    pub address: Address,
+}
+
 /// A flit with the fields that its opcode has, or a load or a store of a word.
 /// Source: `docs/TRACES.md`, "Traces".
 #[derive(Clone, Copy, Debug, PartialEq, Eq)]
@@ -140,7 +161,7 @@ impl Flit {
 }
 
 /// Whether a line whose first word this is is a comment.
-fn is_comment(first: &[u8]) -> bool
+pub(crate) fn is_comment(first: &[u8]) -> bool
     ensures { result ≡ is_comment_word first.now }
 {
     match first {

@@ -4,6 +4,9 @@
 //! Source: `docs/TRACES.md`, "Traces".
 #![tactic(auto)]
 
+mod any_flits;
+mod any_opcodes;
+mod any_reading;
 mod columns;
 mod faults;
 mod fields;
@@ -15,10 +18,12 @@ mod opcodes;
 mod reading;
 mod words;
 
+pub use any_flits::{AnyFlit, AnySeen, any_flit_in};
+pub use any_opcodes::{AnyOpcode, OtherKind, OtherSnoop};
 pub use columns::Column;
 pub use faults::TraceFault;
 pub use fields::{Address, Beat, DbId, NodeId, PcrdType, Resp, TxnId, read_address};
 pub use files::{MOST_BYTES, read_trace};
-pub use flits::{Flit, Seen, Transaction, flit_in};
+pub use flits::{Flit, RequestFields, Seen, SnoopFields, Transaction, flit_in};
 pub use laws::{lines_are_flits, numbers_are_hexadecimal, traces_are_lines};
 pub use opcodes::{Opcode, TraceChannel};

@@ -2,14 +2,14 @@
 
 ghost use Rattle.std.specs.Prelude.{◌≡◌};
 ghost use Rattle.chi_trace.specs.Columns.{row_of_columns};
-ghost use Rattle.chi_trace.specs.Flits.{ack_in, address_in, allow_in, answer_in, beat_in, comp_dbid_in, comp_in, dbid_in, flit_by, grant_in, load_in, named_in, opcode_of, pcrd_in, read_data_in, request_in, resp_in, retry_in, return_in, seen_in, snoop_data_in, snoop_in, source_in, spent_by, store_in, target_in, transaction_in, txn_in, value_in, write_data_in, written_in};
+ghost use Rattle.chi_trace.specs.Flits.{ack_in, address_in, allow_in, answer_in, beat_in, comp_dbid_in, comp_in, dbid_in, flit_by, grant_in, load_in, named_in, opcode_of, pcrd_in, read_data_in, request_fields_in, request_in, resp_in, retry_in, return_in, seen_in, snoop_data_in, snoop_fields_in, snoop_in, source_in, spent_by, store_in, target_in, transaction_in, txn_in, value_in, write_data_in, written_in};
 
 use crate::columns::{Column, Columns};
 use crate::fields::{
     Address, Beat, DbId, NodeId, PcrdType, Resp, TxnId, is_dash, read_address, read_allow,
     read_beat, read_dbid, read_node, read_pcrd, read_resp, read_txn, read_value, read_written,
 };
-use crate::flits::{Flit, Seen, Transaction};
+use crate::flits::{Flit, RequestFields, Seen, SnoopFields, Transaction};
 use crate::opcodes::{Opcode, channel_in, opcode_in};
 use chi_flit::{Kind, Snoop};
 
@@ -22,7 +22,7 @@ impl Columns<'_> {
         opcode_in(channel, self.opcode).ok_or(Column::Opcode)
     }
 
-    fn source(&self) -> Result<NodeId, Column>
+    pub(crate) fn source(&self) -> Result<NodeId, Column>
         ensures { result ≡ source_in (row_of_columns self.now) }
     {
         read_node(self.source).ok_or(Column::Source)
@@ -57,7 +57,7 @@ impl Columns<'_> {
         Ok(Some(address))
     }
 
-    fn resp(&self) -> Result<Resp, Column>
+    pub(crate) fn resp(&self) -> Result<Resp, Column>
         ensures { result ≡ resp_in (row_of_columns self.now) }
     {
         read_resp(self.resp).ok_or(Column::Resp)
@@ -92,7 +92,7 @@ impl Columns<'_> {
         Ok(Some(pcrd))
     }
 
-    fn beat(&self) -> Result<Beat, Column>
+    pub(crate) fn beat(&self) -> Result<Beat, Column>
         ensures { result ≡ beat_in (row_of_columns self.now) }
     {
         read_beat(self.payload).ok_or(Column::Data)
@@ -112,7 +112,7 @@ impl Columns<'_> {
     }
 
     #[tactic(auto, unfolding(crate::specs::Flits::transaction_in))]
-    fn transaction(&self) -> Result<Transaction, Column>
+    pub(crate) fn transaction(&self) -> Result<Transaction, Column>
         ensures { result ≡ transaction_in (row_of_columns self.now) }
     {
         let target = self.target()?;
@@ -125,21 +125,34 @@ impl Columns<'_> {
         })
     }
 
-    #[tactic(auto, unfolding(crate::specs::Flits::request_in))]
-    fn request(&self, kind: Kind) -> Result<Flit, Column>
-        ensures { result ≡ request_in kind (row_of_columns self.now) }
+    /// The columns of a request.
+    #[tactic(auto, unfolding(crate::specs::Flits::request_fields_in))]
+    pub(crate) fn request_fields(&self) -> Result<RequestFields, Column>
+        ensures { result ≡ request_fields_in (row_of_columns self.now) }
     {
         let target = self.target()?;
         let txn = self.txn()?;
         let address = self.address()?;
         let allow_retry = self.allow_retry()?;
         let spends = self.spent(allow_retry)?;
-        Ok(Flit::Request {
-            kind,
+        Ok(RequestFields {
             spends,
             target,
             txn,
             address,
+        })
+    }
+
+    fn request(&self, kind: Kind) -> Result<Flit, Column>
+        ensures { result ≡ request_in kind (row_of_columns self.now) }
+    {
+        let fields = self.request_fields()?;
+        Ok(Flit::Request {
+            kind,
+            spends: fields.spends,
+            target: fields.target,
+            txn: fields.txn,
+            address: fields.address,
         })
     }
 
@@ -152,18 +165,30 @@ impl Columns<'_> {
         Ok(Flit::PCrdReturn { pcrd, target })
     }
 
-    #[tactic(auto, unfolding(crate::specs::Flits::snoop_in))]
-    fn snoop(&self, snoop: Snoop) -> Result<Flit, Column>
-        ensures { result ≡ snoop_in snoop (row_of_columns self.now) }
+    /// The columns of a snoop.
+    #[tactic(auto, unfolding(crate::specs::Flits::snoop_fields_in))]
+    pub(crate) fn snoop_fields(&self) -> Result<SnoopFields, Column>
+        ensures { result ≡ snoop_fields_in (row_of_columns self.now) }
     {
         let target = self.target()?;
         let txn = self.txn()?;
         let address = self.address()?;
-        Ok(Flit::Snoop {
-            snoop,
+        Ok(SnoopFields {
             target,
             txn,
             address,
+        })
+    }
+
+    fn snoop(&self, snoop: Snoop) -> Result<Flit, Column>
+        ensures { result ≡ snoop_in snoop (row_of_columns self.now) }
+    {
+        let fields = self.snoop_fields()?;
+        Ok(Flit::Snoop {
+            snoop,
+            target: fields.target,
+            txn: fields.txn,
+            address: fields.address,
         })
     }
 
@@ -288,7 +313,7 @@ impl Columns<'_> {
     }
 
     /// The flit of the opcode.
-    fn flit(&self, opcode: Opcode) -> Result<Flit, Column>
+    pub(crate) fn flit(&self, opcode: Opcode) -> Result<Flit, Column>
         ensures { result ≡ flit_by opcode (row_of_columns self.now) }
     {
         match opcode {

@@ -1,0 +1,117 @@
+-- The flit of any home or any cache that a line is (docs/TRACES.md, "Other opcodes").
+use Rattle.std.specs.Prelude.{ℕ, List, Option, Some, None, Result, Ok, Err, if◌then◌else◌, ok_or}
+use Rattle.chi_trace.specs.declared.any_flits.AnyFlit.{AnyFlit}
+use Rattle.chi_trace.specs.declared.any_flits.AnyFlit.TheVariants as any
+use Rattle.chi_trace.specs.declared.any_flits.AnySeen.{AnySeen}
+use Rattle.chi_trace.specs.declared.any_opcodes.AnyOpcode.{AnyOpcode}
+use Rattle.chi_trace.specs.declared.any_opcodes.AnyOpcode.TheVariants as codes_any
+use Rattle.chi_trace.specs.declared.any_opcodes.OtherKind.{OtherKind}
+use Rattle.chi_trace.specs.declared.any_opcodes.OtherSnoop.{OtherSnoop}
+use Rattle.chi_trace.specs.declared.columns.Column.{Column}
+use Rattle.chi_trace.specs.declared.columns.Column.TheVariants as columns
+use Rattle.chi_trace.specs.declared.faults.TraceFault.{TraceFault}
+use Rattle.chi_trace.specs.declared.faults.TraceFault.TheVariants.{BadWord, FewWords}
+use Rattle.chi_trace.specs.declared.fields.Resp.{Resp}
+use Rattle.chi_trace.specs.declared.fields.Resp.TheVariants.{UC}
+use Rattle.chi_trace.specs.declared.flits.Flit.TheVariants as flits
+use Rattle.chi_trace.specs.declared.flits.Transaction.{Transaction}
+use Rattle.chi_trace.specs.declared.opcodes.Opcode.{Opcode}
+use Rattle.chi_trace.specs.declared.opcodes.Opcode.TheVariants as opcodes
+use Rattle.chi_trace.specs.AnyOpcodes.{any_opcode_in}
+use Rattle.chi_trace.specs.Columns.{Row, first_word_of, row_behind}
+use Rattle.chi_trace.specs.Fields.{is_dash}
+use Rattle.chi_trace.specs.Flits.{◌>>=◌, beat_in, flit_by, flit_opcode, is_comment_word, request_fields_in, resp_in, snoop_fields_in, source_in, transaction_in}
+use Rattle.chi_trace.specs.Opcodes.{channel_in}
+
+abbrev pub any_opcode_of : Row → Result AnyOpcode Column
+any_opcode_of row = ok_or (channel_in row.channel) columns.Channel >>= λ channel. ok_or (any_opcode_in channel row.opcode) columns.Opcode
+
+-- a request and a snoop that the profile hasn't have the columns of any other
+abbrev pub other_request_in : OtherKind → Row → Result AnyFlit Column
+other_request_in kind row = request_fields_in row >>= λ fields. Ok (any.Request kind fields)
+
+abbrev pub other_snoop_flit : OtherSnoop → Row → Result AnyFlit Column
+other_snoop_flit snoop row = snoop_fields_in row >>= λ fields. Ok (any.Snoop snoop fields)
+
+-- so has write data
+unfoldable pub other_write_in : Row → Result AnyFlit Column
+other_write_in row = do
+  transaction ← transaction_in row
+  resp ← resp_in row
+  beat ← beat_in row
+  Ok (any.NonCopyBackWrData resp transaction beat)
+
+-- a Comp and CompData that leave their DBID out
+abbrev pub bare_comp_by : Resp → Transaction → AnyFlit
+bare_comp_by UC transaction = any.CompUC transaction
+bare_comp_by resp transaction = any.Profile (flits.Comp resp transaction)
+
+unfoldable pub bare_comp_in : Row → Result AnyFlit Column
+bare_comp_in row = do
+  transaction ← transaction_in row
+  resp ← resp_in row
+  Ok (bare_comp_by resp transaction)
+
+unfoldable pub bare_data_in : Row → Result AnyFlit Column
+bare_data_in row = do
+  transaction ← transaction_in row
+  resp ← resp_in row
+  beat ← beat_in row
+  Ok (any.CompData resp transaction beat)
+
+abbrev pub whole_in : Opcode → Row → Result AnyFlit Column
+whole_in opcode row = flit_by opcode row >>= λ flit. Ok (any.Profile flit)
+
+abbrev pub any_comp_in : Row → Result AnyFlit Column
+any_comp_in row = if is_dash row.dbid then bare_comp_in row else whole_in opcodes.Comp row
+
+abbrev pub any_data_in : Row → Result AnyFlit Column
+any_data_in row = if is_dash row.dbid then bare_data_in row else whole_in opcodes.CompData row
+
+abbrev pub profile_in : Opcode → Row → Result AnyFlit Column
+profile_in opcodes.Comp row = any_comp_in row
+profile_in opcodes.CompData row = any_data_in row
+profile_in opcode row = whole_in opcode row
+
+-- the flit of each opcode
+abbrev pub any_flit_by : AnyOpcode → Row → Result AnyFlit Column
+any_flit_by (codes_any.Profile opcode) row = profile_in opcode row
+any_flit_by (codes_any.Request kind) row = other_request_in kind row
+any_flit_by (codes_any.Snoop snoop) row = other_snoop_flit snoop row
+any_flit_by codes_any.NonCopyBackWrData row = other_write_in row
+
+-- the opcode of a flit
+abbrev pub any_opcode : AnyFlit → AnyOpcode
+any_opcode (any.Profile flit) = codes_any.Profile (flit_opcode flit)
+any_opcode (any.Request kind fields) = codes_any.Request kind
+any_opcode (any.Snoop snoop fields) = codes_any.Snoop snoop
+any_opcode (any.CompUC transaction) = codes_any.Profile opcodes.Comp
+any_opcode (any.CompData resp transaction beat) = codes_any.Profile opcodes.CompData
+any_opcode (any.NonCopyBackWrData resp transaction beat) = codes_any.NonCopyBackWrData
+
+-- the flit of line n with these columns, or the first column that is wrong
+unfoldable pub any_seen_in : ℕ → Row → Result AnySeen Column
+any_seen_in n row = do
+  opcode ← any_opcode_of row
+  source ← source_in row
+  flit ← any_flit_by opcode row
+  Ok (record { line = n; source = source; flit = flit })
+
+-- which column of line n is wrong
+abbrev pub any_told_at : ℕ → Result AnySeen Column → Result (Option AnySeen) TraceFault
+any_told_at n (Ok seen) = Ok (Some seen)
+any_told_at n (Err column) = Err (BadWord n column)
+
+-- the flit of line n with these columns, if there are so many
+abbrev pub any_flit_of_row : ℕ → Option Row → Result (Option AnySeen) TraceFault
+any_flit_of_row n None = Err (FewWords n)
+any_flit_of_row n (Some row) = any_told_at n (any_seen_in n row)
+
+-- the same of a first word and those behind it; none where it is a comment or there is no word
+abbrev pub any_flit_from : ℕ → Option (List ℕ × List (List ℕ)) → Result (Option AnySeen) TraceFault
+any_flit_from n None = Ok None
+any_flit_from n (Some found) = if is_comment_word found.0 then Ok None else any_flit_of_row n (row_behind found.0 found.1)
+
+-- the flit of line n with these words
+abbrev pub any_flit_at : ℕ → List (List ℕ) → Result (Option AnySeen) TraceFault
+any_flit_at n words = any_flit_from n (first_word_of words)
