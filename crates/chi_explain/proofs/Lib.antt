@@ -1,2 +1,3 @@
+pub mod Elsewhere
 pub mod SentLemmas
 pub mod Tests

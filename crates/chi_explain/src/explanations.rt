@@ -5,11 +5,11 @@ ghost use Rattle.std.specs.List.{All};
 ghost use Rattle.chi_explain.specs.Explained.{Explained, Explains, IsAct, IsStepSeen, IsExplained, IsSnoopShown, IsSnoopSeen, IsUnexplainedBy, MayTake, is_listed, line_action, is_shown, shown_after};
 ghost use Rattle.chi_explain.specs.declared.explanations.WitnessItem.TheVariants.{Load, Store};
 ghost use Rattle.chi_explain.specs.declared.explanations.Unexplained.TheVariants.{NoMemory};
-ghost use Rattle.chi_slice.specs.Slice.{line};
+ghost use Rattle.chi_slice.specs.Slice.{line, slice_after};
 
 use crate::observed::{Observed, StoreListing};
 use crate::openings::{LINE, opened};
-use crate::sent::{SentFlit, behind, behind_all, behind_load, behind_store, busy_at};
+use crate::sent::{SentFlit, behind, behind_agent, behind_load, behind_store, busy_in, flit_agent};
 use chi_flit::{Action, Agent, Data, Effect, Msg, NoMemory, Refusal, Snoop, Step, WordNo};
 use chi_line::CoherentLine;
 use chi_slice::{Config, Slice};
@@ -264,10 +264,12 @@ fn act<'f, A: Allocator>(
     if !may_take(shown, agent, step) {
         return Err(Missed::Differs);
     }
-    let before = busy_at(line_in(slice)?);
+    let line = line_in(slice)?;
+    let whose = flit_agent(line, agent, step);
+    let before = busy_in(line.flits(whose));
     let effect = do_step(slice, agent, step)?;
     answer(shown, agent, step);
-    match behind_all(seen, &before, line_in(slice)?) {
+    match behind_agent(seen, whose, before, line_in(slice)?.flits(whose)) {
         Some(rest) => Ok(Sent { effect, rest }),
         None => Err(Missed::Differs),
     }
@@ -275,8 +277,9 @@ fn act<'f, A: Allocator>(
 
 /// Does the step; its effect.
 fn do_step<A: Allocator>(slice: &mut Slice<A>, agent: Agent, step: Step) -> Result<Effect, Missed>
-    ensures { IfOk result
+    ensures act { IfOk result
         (λ effect. IsAct slice.old (line_action agent step) effect slice.new) }
+    ensures after { OnOk result (slice.new ≡ slice_after slice.old (line_action agent step)) }
 {
     let action = Action {
         agent,

@@ -1,15 +1,15 @@
 //! The flits that an action sends, beside those that were seen.
 
-ghost use Rattle.std.specs.Prelude.{◌≡◌, ◌∷◌, ◌++◌, IfSome, IsTrue, List};
+ghost use Rattle.std.specs.Prelude.{◌≡◌, ◌<◌, ◌∷◌, ◌++◌, IfSome, IsTrue};
 ghost use Rattle.chi_slice.specs.Words.{Cells, cell_of};
-ghost use Rattle.chi_explain.specs.Sent.{AreBusy, busy_in, new_flit, sent_below, sent_of_agent};
+ghost use Rattle.chi_explain.specs.Sent.{busy_in, flit_agent, new_flit, sent_of_agent, served_or};
 ghost use Rattle.chi_explain.specs.declared.observed.Observed.TheVariants.{Flit, Load, Store};
 
 use crate::observed::Observed;
 use crate::same::is_same_message;
-use chi_flit::{Agent, Channel, Msg, WordNo};
+use chi_flit::{Agent, Channel, Msg, Step, WordNo};
 use chi_line::CoherentLine;
-use chi_slice::Cells;
+use chi_slice::{Cells, Serving};
 
 /// A message that a requester sent to the home, or the home to it.
 /// Source: `docs/TRACES.md`, "Explanations".
@@ -30,17 +30,6 @@ pub(crate) struct Busy {
     dat_up: bool,
 }
 
-impl Busy {
-    /// On none.
-    pub(crate) const NONE: Busy = Busy {
-        req: false,
-        rsp_down: false,
-        dat_down: false,
-        rsp_up: false,
-        dat_up: false,
-    };
-}
-
 /// On which channels something is in flight.
 pub(crate) fn busy_in(cells: &Cells) -> Busy
     ensures { result ≡ busy_in cells.now }
@@ -51,6 +40,31 @@ pub(crate) fn busy_in(cells: &Cells) -> Busy
         dat_down: cells.dat_down.is_some(),
         rsp_up: cells.rsp_up.is_some(),
         dat_up: cells.dat_up.is_some(),
+    }
+}
+
+/// The agent on whose channels a step of an agent puts what it sends, snoops aside: its own, or for an answer to a
+/// snoop that of the request that is served.
+pub(crate) fn flit_agent(line: &CoherentLine, agent: Agent, step: Step) -> Agent
+    requires { agent.0 < 8 }
+    ensures which { result ≡ flit_agent line.now agent step }
+    ensures low { result.0 < 8 }
+{
+    match step {
+        Step::RecvSnpResp => served_or(line.home().serving(), agent),
+        _ => agent,
+    }
+}
+
+/// The agent that is snooped for, or this one.
+fn served_or(serving: Serving, agent: Agent) -> Agent
+    requires { agent.0 < 8 }
+    ensures which { result ≡ served_or serving agent }
+    ensures low { result.0 < 8 }
+{
+    match serving {
+        Serving::Snooping { agent: served, .. } if served.0 < 8 => served,
+        _ => agent,
     }
 }
 
@@ -139,7 +153,7 @@ fn is_same(one: &SentFlit, other: &SentFlit) -> bool
 
 /// What is left of what was seen behind the flits that an action has put on an agent's channels, but for snoops; on
 /// these of them something was in flight before. `None` where it has put others.
-fn behind_agent<'f>(
+pub(crate) fn behind_agent<'f>(
     seen: &'f [Observed],
     agent: Agent,
     before: Busy,
@@ -153,34 +167,5 @@ fn behind_agent<'f>(
     let rest = behind_new(rest, agent, before.dat_down, after, Channel::DatDown)?;
     let rest = behind_new(rest, agent, before.rsp_up, after, Channel::RspUp)?;
     let rest = behind_new(rest, agent, before.dat_up, after, Channel::DatUp)?;
-    Some(rest)
-}
-
-/// On which channels of all agents something is in flight.
-pub(crate) fn busy_at(line: &CoherentLine) -> [Busy; 8]
-    ensures { AreBusy line.now.flits result }
-{
-    let mut busy = [Busy::NONE; 8];
-    for number in 0..8 {
-        busy[number] = busy_in(line.flits(Agent(number as u8)));
-    }
-    busy
-}
-
-/// What is left of what was seen behind the flits that an action has put on the channels of all agents, but for
-/// snoops; on these something was in flight before. `None` where it has put others.
-pub(crate) fn behind_all<'f>(
-    seen: &'f [Observed],
-    before: &[Busy; 8],
-    after: &CoherentLine,
-) -> Option<&'f [Observed]>
-    ensures { IfSome result (λ rest. (flits : List Cells) → AreBusy flits before.now
-        → seen.now ≡ sent_below flits after.now.flits 8 ++ rest.now) }
-{
-    let mut rest = seen;
-    for number in 0..8 {
-        let agent = Agent(number as u8);
-        rest = behind_agent(rest, agent, before[number], after.flits(agent))?;
-    }
     Some(rest)
 }

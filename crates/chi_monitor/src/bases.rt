@@ -1,4 +1,4 @@
-//! What each reason rests on.
+//! What each reason rests on. The reason itself isn't trusted: that it is right is tested.
 
 ghost use Rattle.std.specs.Prelude.{◌≡◌};
 ghost use Rattle.chi_monitor.specs.Bases.{basis_if, basis_of, form_basis, gives_back, has_to_be_snooped, need_basis, snoop_basis, takes_all, told_basis, write_basis};

@@ -1,5 +1,5 @@
-//! What the model allows in place of what was seen. The search isn't trusted: what it finds is done again by
-//! chi_explain.
+//! What the model allows in place of what was seen.
+//! Not trusted: chi_explain does again what the search finds, and compares.
 
 ghost use Rattle.std.specs.Prelude.{◌≡◌, ◌<◌, IfOk, OnOk};
 ghost use Rattle.chi_monitor.specs.Choices.{AreInterchangeable, is_alike, is_same_way};

@@ -1,5 +1,5 @@
-//! Completions of a line's requests, and what acknowledges them. Not trusted: what the search finds is done again by
-//! chi_explain.
+//! Completions of a line's requests, and what acknowledges them.
+//! Not trusted: chi_explain does again what the search finds, and compares.
 
 ghost use Rattle.std.specs.Prelude.{◌<◌};
 

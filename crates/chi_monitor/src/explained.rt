@@ -1,4 +1,4 @@
-//! Explanations that were found and done.
+//! Explanations that were found by the search, and done by chi_explain: that they hold is proved.
 
 ghost use Rattle.std.specs.Prelude.{IfErr, IfOk, IfSome, length};
 ghost use Rattle.chi_monitor.specs.Places.{IsWithin};

@@ -1,4 +1,5 @@
-//! Reasons in words. Not trusted, as the search whose reasons they are: that they are right is tested.
+//! Reasons in words.
+//! Not trusted, as the search whose reasons they are: that they are right is tested.
 
 use crate::faults::{
     Awaited, Basis, Differing, KnownWord, LineFault, Reach, SeenAt, WrongForm, WrongSnoops,
@@ -230,6 +231,15 @@ impl fmt::Display for FormText<'_> {
     }
 }
 
+/// Why a copy that may be written doesn't have the value that a load read: that no store is done while a request is
+/// pending is a choice of the profile.
+fn pending_text(basis: Basis) -> &'static str {
+    match basis {
+        Basis::Standard => "",
+        Basis::Profile => ", and no store is done while its request to the line isn't over",
+    }
+}
+
 impl FaultText<'_> {
     /// What has to do with what the home awaits, and with the request that a flit is for.
     fn write_stage<W: fmt::Write>(&self, f: &mut fmt::Formatter<W>) -> fmt::Result {
@@ -338,9 +348,10 @@ impl FaultText<'_> {
                 let since = SinceText(reach.since, names);
                 write!(f, "its copy is I{since}, which no load reads")
             }
-            LineFault::Word(word, KnownWord { value, since }, _) => {
+            LineFault::Word(word, KnownWord { value, since }, basis) => {
                 let since = SinceText(since, names);
-                write!(f, "word {word} of its copy is {value:x}{since}")
+                let pending = pending_text(basis);
+                write!(f, "word {word} of its copy is {value:x}{since}{pending}")
             }
             LineFault::NoStore(reach) => {
                 let (states, since) = (States(reach), SinceText(reach.since, names));

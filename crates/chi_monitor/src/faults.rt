@@ -1,4 +1,5 @@
 //! Why no run of the model sends a flit, or does a load or a store, and what told it.
+//! Not trusted, as the search that tells it: that a fault is one is tested.
 
 use chi_explain::StoreListing;
 use chi_flit::{Agent, CreditType, Kind, Snoop, State, WordNo};

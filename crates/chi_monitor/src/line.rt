@@ -1,5 +1,5 @@
-//! What the flits so far have shown of a line, and the actions that explain them. Not trusted: what the search finds is
-//! done again by chi_explain.
+//! What the flits so far have shown of a line, and the actions that explain them.
+//! Not trusted: chi_explain does again what the search finds, and compares.
 
 ghost use Rattle.std.specs.Prelude.{◌≡◌, ◌<◌, OnOk};
 ghost use Rattle.chi_monitor.specs.Forgotten.{IsForgotten, is_snooping};

@@ -1,4 +1,5 @@
-//! A monitor of one line. Whether a flit is taken isn't trusted: what is kept is explained by chi_explain.
+//! A monitor of one line.
+//! Whether a flit is taken isn't trusted: what is kept is explained by chi_explain.
 
 ghost use Rattle.std.specs.Prelude.{◌≡◌, IfOk, OnErr, OnOk, nat_lt, true};
 ghost use Rattle.chi_monitor.specs.Watched.{IsToldOf, has_no_room, unwatched_line, watched_after};

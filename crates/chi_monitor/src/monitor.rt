@@ -1,4 +1,5 @@
-//! A monitor of the lines of a node. Whether a flit is taken isn't trusted: what is kept is explained by chi_explain.
+//! A monitor of the lines of a node.
+//! Whether a flit is taken isn't trusted: what is kept is explained by chi_explain.
 
 ghost use Rattle.std.specs.Prelude.{◌≡◌, IfOk, replicate, slice_get};
 ghost use Rattle.chi_monitor.specs.Watched.{IsObserved, IsToldAt, flit_refusal, next_number, open_flits_at, opening_monitor, judging_refusal, unwatched_line};

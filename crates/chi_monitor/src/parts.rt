@@ -1,5 +1,5 @@
-//! Data of which words weren't seen: these may be any that a run of the model sends. Not trusted: what is found is done
-//! again by chi_explain.
+//! Data of which words weren't seen: these may be any that a run of the model sends.
+//! Not trusted: chi_explain does again what the search finds, and compares.
 
 use crate::faults::{LineFault, SeenAt};
 use crate::line::Search;

@@ -1,4 +1,5 @@
-//! A requester's side of a line, as the flits show it. Not trusted: what the search finds is done again by chi_explain.
+//! A requester's side of a line, as the flits show it.
+//! Not trusted: chi_explain does again what the search finds, and compares.
 
 use crate::faults::SeenAt;
 use crate::values::{Unknown, UnknownWords};

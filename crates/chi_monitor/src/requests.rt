@@ -1,5 +1,5 @@
-//! Requests that a line was sent: first attempts, their RetryAcks, and those that were sent again. Not trusted: what
-//! the search finds is done again by chi_explain.
+//! Requests that a line was sent: first attempts, their RetryAcks, and those that were sent again.
+//! Not trusted: chi_explain does again what the search finds, and compares.
 
 ghost use Rattle.std.specs.Prelude.{◌<◌};
 

@@ -1,4 +1,5 @@
-//! The explanation of all that was seen of a line. Not trusted: what it finds is done again by chi_explain.
+//! The explanation of all that was seen of a line.
+//! Not trusted: chi_explain does again what the search finds, and compares.
 
 ghost use Rattle.std.specs.Prelude.{◌<◌, ℕ, IfErr, length};
 ghost use Rattle.chi_monitor.specs.Places.{IsWithin};

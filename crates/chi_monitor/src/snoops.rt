@@ -1,4 +1,5 @@
-//! Snoops of a line, and the answers to them. Not trusted: what the search finds is done again by chi_explain.
+//! Snoops of a line, and the answers to them.
+//! Not trusted: chi_explain does again what the search finds, and compares.
 
 ghost use Rattle.std.specs.Prelude.{◌<◌};
 

@@ -1,4 +1,5 @@
-//! Words of lines, which may be unknown for a while. Not trusted: what the search finds is done again by chi_explain.
+//! Words of lines, which may be unknown for a while.
+//! Not trusted: chi_explain does again what the search finds, and compares.
 
 ghost use Rattle.std.specs.Prelude.{◌≡◌, length};
 ghost use Rattle.chi_monitor.specs.Forgotten.{are_many};

@@ -1,4 +1,5 @@
-//! Write data of a line's copy-backs. Not trusted: what the search finds is done again by chi_explain.
+//! Write data of a line's copy-backs.
+//! Not trusted: chi_explain does again what the search finds, and compares.
 
 ghost use Rattle.std.specs.Prelude.{◌<◌};
 
