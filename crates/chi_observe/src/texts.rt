@@ -172,12 +172,17 @@ fn write_rule<A: Allocator>(
                 "another copy may have been dirty since its request was sent"
             )
         }
+        Reason::NoOverwriter => write!(
+            text,
+            "no request of another is open for which copies may be thrown away"
+        ),
         Reason::NoDuty => write!(text, "the home has no dirty data to pass on"),
         Reason::OtherWords => {
             let words = WordsName(known_words(observer));
             write!(text, "the words are {words}")
         }
         Reason::OtherCopy => write_holder(text, requesters, observer, agent),
+        Reason::Lost => write!(text, "the value last stored may have been thrown away"),
         Reason::NoAgent | Reason::NotJudged => write!(text, "it isn't judged"),
     }
 }
