@@ -3,16 +3,8 @@
 ghost use Rattle.std.specs.Prelude.{◌≡◌, ◌∷◌, [], false, IfOk};
 ghost use Rattle.chi_coverage.specs.Fillers.{filler_behind, fillers_of};
 
-use chi_script::{first_line, is};
+use chi_script::{FILLER_BEGINS, FILLER_ENDS, first_line, is};
 use std::alloc::{AllocError, Allocator};
-
-/// The comment behind which the commands of a check file are filler.
-/// Source: `docs/FORMATS.md`, "Coverage".
-const FILLER_BEGINS: &str = "# filler begins";
-
-/// The comment behind which they aren't any more.
-/// Source: `docs/FORMATS.md`, "Coverage".
-const FILLER_ENDS: &str = "# filler ends";
 
 /// Whether commands behind this line are filler, where those before it are as told.
 fn behind(before: bool, line: &[u8]) -> bool

@@ -25,3 +25,4 @@ pub mod StormTextLemmas
 pub mod LineEndLemmas
 pub mod FrontLemmas
 pub mod WriteLemmas
+pub mod NumberedLines

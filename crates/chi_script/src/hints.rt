@@ -1,7 +1,8 @@
 //! What is told of a faulty line behind its fault: the word that is wrong, and what was expected there.
 
-ghost use Rattle.std.specs.Prelude.{IfOk, string_bytes};
-ghost use Rattle.chi_script.specs.Files.{IsOneLine};
+ghost use Rattle.std.specs.Prelude.{◌≡◌, ◌-◌, [], IfOk, string_bytes};
+ghost use Rattle.std.specs.List.{slice_index_or};
+ghost use Rattle.chi_script.specs.Files.{IsOneLine, lines_of};
 
 use crate::check_files::MOST_CHECK_BYTES;
 use crate::checks::parts;
@@ -149,19 +150,22 @@ fn hint_of(bytes: &[u8], fault: Fault) -> Hint<'_> {
     }
 }
 
-/// The line of this number, counted from 1; empty where there is none.
-fn line_at(bytes: &[u8], number: usize) -> &[u8] {
+/// The line of this number, counted from 1, without its line end; empty where there is none.
+/// Source: `docs/FORMATS.md`, "Bytes, lines and numbers".
+#[tactic(auto, using(crate::proofs::NumberedLines::at_once, crate::proofs::NumberedLines::later, crate::proofs::NumberedLines::past))]
+pub fn line_at(bytes: &[u8], number: usize) -> &[u8]
+    ensures { result.now ≡ slice_index_or (lines_of bytes.now) (number - 1) [] }
+{
     let mut rest = bytes;
-    for _ in 1..number {
-        match first_line(rest) {
-            Some((_, after)) => rest = after,
-            None => return &[],
+    let mut at = 1;
+    while let Some((line, after)) = first_line(rest) {
+        if at >= number {
+            return line;
         }
+        rest = after;
+        at += 1;
     }
-    match first_line(rest) {
-        Some((line, _)) => line,
-        None => rest,
-    }
+    if at >= number { rest } else { &[] }
 }
 
 /// The carriage return that a line ends with, or else what is wrong with its words.

@@ -10,6 +10,7 @@ mod commands;
 mod devices;
 mod faults;
 mod files;
+mod fillers;
 mod good_lines;
 mod headers;
 mod hints;
@@ -31,9 +32,10 @@ pub use commands::{Command, read_command};
 pub use devices::{Failed, Input, Output};
 pub use faults::Fault;
 pub use files::{MOST_BYTES, ReplayFile, command_in, first_line, header_in, read_file, read_head};
+pub use fillers::{FILLER_BEGINS, FILLER_ENDS};
 pub use good_lines::check_lines;
 pub use headers::{Header, read_header};
-pub use hints::hint_at;
+pub use hints::{hint_at, line_at};
 pub use laws::{
     check_files_are_lines, check_front_is_enough, checks_are_lines, commands_are_lines,
     headers_are_lines, numbers_are_decimal, operations_are_lines, replay_front_is_enough,

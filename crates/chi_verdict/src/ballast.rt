@@ -7,13 +7,9 @@ ghost use Rattle.std.specs.Prelude.{◌<◌};
 use crate::names::kept;
 use chi_explain::WitnessItem;
 use chi_flit::{Agent, CreditType, Kind, NoMemory, Profile, Step, credit_type};
+use chi_script::{FILLER_BEGINS, FILLER_ENDS};
 use std::alloc::Allocator;
 use std::fmt::Write;
-
-/// The comments before and behind commands that are none of what is explained, as coverage reads them.
-const FILLER_BEGINS: &str = "# filler begins";
-
-const FILLER_ENDS: &str = "# filler ends";
 
 /// The types of credit, by their numbers.
 const TYPES: [CreditType; 4] = [

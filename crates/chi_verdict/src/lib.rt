@@ -10,12 +10,16 @@ mod check_files;
 mod closings;
 mod explanations;
 mod id_texts;
+mod judged_traces;
+mod judgments;
 mod lines;
 mod malformed;
 mod names;
 mod open_texts;
+mod outcome_texts;
 mod readings;
 mod reports;
+mod stop_texts;
 mod unseen;
 
 pub use asked::{Asked, Ending};

@@ -6,7 +6,7 @@ ghost use Rattle.chi_verdict.specs.Texts.{BeginsWith, malformed_front};
 
 use crate::names::{joined, kept};
 use chi_flit::NoMemory;
-use chi_script::{ShownWord, first_line};
+use chi_script::{ShownWord, line_at};
 use chi_trace::{Column, MOST_BYTES, TraceChannel, TraceFault};
 use std::alloc::Allocator;
 use std::fmt;
@@ -100,21 +100,6 @@ fn opcodes(channel: &[u8]) -> &'static str {
         b"CPU" => "Load or Store",
         b"RSP" => "RetryAck, Comp, CompDBIDResp, PCrdGrant, SnpResp or CompAck",
         _ => "CompData, SnpRespData or CopyBackWrData",
-    }
-}
-
-/// The line of this number, counted from 1; empty where there is none.
-fn line_at(bytes: &[u8], number: usize) -> &[u8] {
-    let mut rest = bytes;
-    for _ in 1..number {
-        match first_line(rest) {
-            Some((_, after)) => rest = after,
-            None => return &[],
-        }
-    }
-    match first_line(rest) {
-        Some((line, _)) => line,
-        None => rest,
     }
 }
 

@@ -1,4 +1,5 @@
 //! Words that no beat has had where a trace ends: they are those of a run of the model.
+//! They are the search's, which isn't trusted: chi_explain does again what it finds, and compares.
 
 ghost use Rattle.std.specs.Prelude.{◌≡◌, OnOk};
 ghost use Rattle.chi_verdict.specs.Unseen.{AreFilled, filled_with, message_with, seen_with, words_with, written_with};

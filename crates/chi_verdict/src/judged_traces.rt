@@ -1,0 +1,201 @@
+//! What is told of a trace that was judged.
+
+ghost use Rattle.std.specs.Prelude.{◌≡◌, IfOk, string_bytes};
+ghost use Rattle.chi_verdict.specs.Ending.{explained_outcome, trace_outcome_of};
+ghost use Rattle.chi_verdict.specs.Texts.{BeginsWith, IsOutcomeText, stop_front};
+ghost use Rattle.chi_verdict.specs.declared.reports.TraceOutcome.TheVariants as outcomes;
+
+use crate::asked::{Asked, Ending};
+use crate::check_files::Told;
+use crate::names::{joined, kept};
+use crate::open_texts::write_open;
+use crate::outcome_texts::{explained_line, nothing_text, stop_front};
+use crate::reports::{TraceOutcome, TraceReport, TraceStop, TraceTotals};
+use chi_explain::{Observed, StoreListing};
+use chi_flit::{NoMemory, Profile};
+use chi_monitor::explain_flits;
+use chi_resolution::{CacheLine, Resolution, Resolved, line_of};
+use chi_slice::Config;
+use chi_trace::{Address, Seen};
+use std::alloc::Allocator;
+use std::fmt::Write;
+
+/// What is told of a trace each of whose lines is explained.
+fn explained_outcome(
+    ending: Ending,
+    is_open: bool,
+    nothing: bool,
+    totals: TraceTotals,
+) -> TraceOutcome
+    ensures { result ≡ explained_outcome ending is_open nothing totals }
+{
+    match (ending, is_open, nothing) {
+        (_, _, true) => TraceOutcome::Nothing,
+        (Ending::Complete, true, false) => TraceOutcome::Incomplete(totals),
+        (Ending::Any, _, false) | (Ending::Complete, false, false) => {
+            TraceOutcome::Explained(totals)
+        }
+    }
+}
+
+/// A trace that was resolved, and judged: the items ascend by line where one isn't explained, or is asked for.
+#[derive(Drop)]
+pub(crate) struct JudgedTrace<'a, A: Allocator> {
+    pub(crate) seen: &'a [Seen],
+    pub(crate) profile: Profile,
+    pub(crate) stores: StoreListing,
+    pub(crate) config: Config,
+    pub(crate) resolution: &'a Resolution<A>,
+}
+
+impl<A: Allocator + Copy> JudgedTrace<'_, A> {
+    /// The report on a trace that was judged so, by whether anything is open and nothing was seen.
+    pub(crate) fn report(
+        &self,
+        alloc: A,
+        judged: Result<TraceTotals, TraceStop>,
+        asked: Asked,
+        is_open: bool,
+        nothing: bool,
+    ) -> Result<TraceReport<A>, NoMemory>
+        ensures outcome { IfOk result (λ report.
+            report.outcome ≡ trace_outcome_of asked.ending is_open nothing judged) }
+        ensures text { IfOk result (λ report.
+            IsOutcomeText self.now.seen.now asked.only report.outcome (string_bytes report.text)) }
+    {
+        let outcome = match judged {
+            Ok(totals) => explained_outcome(asked.ending, is_open, nothing, totals),
+            Err(stop) => TraceOutcome::Faulty(stop),
+        };
+        let text = self.outcome_text(alloc, &outcome, asked.only)?;
+        Ok(TraceReport { outcome, text })
+    }
+
+    /// What is told of a trace of which this came.
+    fn outcome_text(
+        &self,
+        alloc: A,
+        outcome: &TraceOutcome,
+        only: Option<Address>,
+    ) -> Result<String<A>, NoMemory>
+        ensures { IfOk result (λ text.
+            IsOutcomeText self.now.seen.now only outcome.now (string_bytes text)) }
+    {
+        match outcome {
+            TraceOutcome::Explained(totals) => self.explained_text(alloc, *totals, only),
+            TraceOutcome::Incomplete(totals) => self.explained_text(alloc, *totals, only),
+            TraceOutcome::Nothing => nothing_text(alloc, only),
+            TraceOutcome::Faulty(stop) => self.faulty_text(alloc, stop, only),
+            TraceOutcome::Malformed(_) => Err(NoMemory),
+        }
+    }
+
+    /// What is told where all is explained: totals and what is open, or the check file of one line.
+    fn explained_text(
+        &self,
+        alloc: A,
+        totals: TraceTotals,
+        only: Option<Address>,
+    ) -> Result<String<A>, NoMemory>
+        ensures { IfOk result (λ text. IsOutcomeText self.now.seen.now only
+            (outcomes.Explained totals) (string_bytes text)) }
+    {
+        match only {
+            Some(address) => self.line_text(alloc, line_of(address), usize::MAX),
+            None => {
+                let front = explained_line(alloc, totals)?;
+                let mut rest = String::new(alloc);
+                write_open(&mut rest, self.resolution)?;
+                joined(front, &rest)
+            }
+        }
+    }
+
+    /// What is told where something isn't explained: the line on it, behind the check file of one line up to it where
+    /// one is asked for.
+    fn faulty_text(
+        &self,
+        alloc: A,
+        stop: &TraceStop,
+        only: Option<Address>,
+    ) -> Result<String<A>, NoMemory>
+        ensures { IfOk result (λ text. IsOutcomeText self.now.seen.now only
+            (outcomes.Faulty stop.now) (string_bytes text)) }
+    {
+        let told = self.stop_text(alloc, stop)?;
+        match only {
+            Some(address) => {
+                let mut text = self.line_text(alloc, line_of(address), stop.place())?;
+                text.push_str("# ")?;
+                joined(text, &told)
+            }
+            None => Ok(told),
+        }
+    }
+
+    /// The line of text on what isn't explained.
+    fn stop_text(&self, alloc: A, stop: &TraceStop) -> Result<String<A>, NoMemory>
+        ensures { IfOk result (λ text. BeginsWith
+            (stop_front self.now.seen.now stop.now) (string_bytes text)) }
+    {
+        let front = stop_front(alloc, self.seen, stop)?;
+        let mut rest = String::new(alloc);
+        self.write_stop(alloc, &mut rest, stop)?;
+        joined(front, &rest)
+    }
+
+    /// The items of a line before this place of the trace.
+    fn items_of(&self, line: CacheLine, before: usize) -> &[Resolved] {
+        let items = self.resolution.flits.as_slice();
+        let start = items
+            .iter()
+            .position(|item| item.line == line)
+            .unwrap_or(items.len());
+        let rest = if start <= items.len() {
+            &items[start..]
+        } else {
+            &[]
+        };
+        let count = rest
+            .iter()
+            .position(|item| item.line != line || item.at >= before)
+            .unwrap_or(rest.len());
+        if count <= rest.len() {
+            &rest[..count]
+        } else {
+            rest
+        }
+    }
+
+    /// The check file of a line, up to this place of the trace.
+    fn line_text(&self, alloc: A, line: CacheLine, before: usize) -> Result<String<A>, NoMemory> {
+        let mut text = String::new(alloc);
+        let items = self.items_of(line, before);
+        let told = Told {
+            seen: self.seen,
+            requesters: &self.resolution.nodes.requesters,
+            home: self.resolution.nodes.home,
+            profile: self.profile,
+            line,
+            items,
+        };
+        let seen = said_by(alloc, items)?;
+        match explain_flits(alloc, &self.config, self.stores, &seen) {
+            Ok(witness) => told.write(&mut text, &witness)?,
+            Err(_) => kept(writeln!(text, "# no explanation was found"))?,
+        }
+        Ok(text)
+    }
+}
+
+/// What items say.
+pub(crate) fn said_by<A: Allocator>(
+    alloc: A,
+    items: &[Resolved],
+) -> Result<Vec<Observed, A>, NoMemory> {
+    let mut seen = Vec::new(alloc);
+    for item in items {
+        seen.push(item.flit)?;
+    }
+    Ok(seen)
+}
