@@ -1,5 +1,5 @@
 -- The flit of any home or any cache that a line is (docs/TRACES.md, "Other opcodes").
-use Rattle.std.specs.Prelude.{ℕ, Bool, true, false, List, Option, Some, None, Result, Ok, Err, if◌then◌else◌, ok_or}
+use Rattle.std.specs.Prelude.{ℕ, List, Option, Some, None, Result, Ok, Err, if◌then◌else◌, ok_or}
 use Rattle.chi_trace.specs.declared.any_flits.AnyFlit.{AnyFlit}
 use Rattle.chi_trace.specs.declared.any_flits.AnyFlit.TheVariants as any
 use Rattle.chi_trace.specs.declared.any_flits.AnySeen.{AnySeen}

@@ -12,7 +12,7 @@ use Rattle.chi_trace.specs.declared.any_opcodes.OtherSnoop.TheVariants as snoops
 use Rattle.chi_trace.specs.declared.opcodes.Opcode.{Opcode}
 use Rattle.chi_trace.specs.declared.opcodes.TraceChannel.{TraceChannel}
 use Rattle.chi_trace.specs.declared.opcodes.TraceChannel.TheVariants as channels
-use Rattle.chi_trace.specs.Opcodes.{opcode_channel, opcode_in, opcode_text}
+use Rattle.chi_trace.specs.Opcodes.{opcode_in}
 
 abbrev pub other_kind_text : OtherKind → List ℕ
 other_kind_text kinds.ReadClean = codes "ReadClean"
