@@ -1,6 +1,6 @@
 -- The ids that are open, each under its key: its sort, its home, its requester and its number (docs/OBSERVER.md, "Ids and
 -- credits").
-use Rattle.std.specs.Prelude.{◌==◌, ◌&&◌, Bool, true, false, List, Option, Some, None}
+use Rattle.std.specs.Prelude.{ℕ, ◌==◌, ◌&&◌, Bool, true, false, List, Option, Some, None}
 use Rattle.std.specs.Map.{lookup}
 use Rattle.indexmap.specs.IndexMap.{insert_entry, swap_remove_entry}
 use Rattle.chi_observe.specs.declared.ids.CacheLine.{CacheLine}
@@ -8,6 +8,7 @@ use Rattle.chi_observe.specs.declared.ids.IdKey.{IdKey}
 use Rattle.chi_observe.specs.declared.ids.IdKey.TheVariants.{Request, Buffer, Snoop, Retried}
 use Rattle.chi_observe.specs.declared.ids.KeyNumbers.{KeyNumbers}
 use Rattle.chi_observe.specs.declared.ids.OpenId.{OpenId}
+use Rattle.chi_observe.specs.declared.ids.Sides.{Sides}
 use Rattle.chi_observe.specs.declared.ids.Purpose.{Purpose}
 use Rattle.chi_observe.specs.declared.ids.Purpose.TheVariants as purposes
 use Rattle.chi_observer.specs.declared.kinds.Kind.{Kind}
@@ -42,6 +43,25 @@ is_followed other = true
 abbrev pub is_kept_for : Purpose → Bool
 is_kept_for (purposes.Request kind first) = is_followed kind
 is_kept_for (purposes.Snoop snoop) = false
+is_kept_for (purposes.Unknown first) = false
+
+abbrev pub is_unknown : Purpose → Bool
+is_unknown (purposes.Request kind first) = false
+is_unknown (purposes.Snoop snoop) = false
+is_unknown (purposes.Unknown first) = true
+
+abbrev pub sides_of : IdKey → Sides
+sides_of (Request sides txn) = sides
+sides_of (Buffer sides dbid) = sides
+sides_of (Snoop sides txn) = sides
+sides_of (Retried sides line) = sides
+
+-- the same key, but for its home
+abbrev pub alike_numbers : KeyNumbers → KeyNumbers → Bool
+alike_numbers one other = one.sort == other.sort && (one.requester == other.requester && one.number == other.number)
+
+abbrev pub is_alike : IdKey → IdKey → Bool
+is_alike key other = alike_numbers (numbers_of key) (numbers_of other)
 
 -- an id that is opened
 abbrev pub opened_id : IdKey → CacheLine → Purpose → OpenId

@@ -9,7 +9,7 @@ use Rattle.chi_observe.specs.declared.ids.IdKey.{IdKey}
 use Rattle.chi_observe.specs.declared.ids.IdKey.TheVariants.{Retried}
 use Rattle.chi_observe.specs.declared.ids.OpenId.{OpenId}
 use Rattle.chi_observe.specs.Credits.{owed_of, unused_of}
-use Rattle.chi_observe.specs.Lines.{LineState}
+use Rattle.chi_observe.specs.Lines.{LineState, is_aside}
 use Rattle.chi_observe.specs.Nodes.{agent_of}
 use Rattle.chi_observe.specs.Watched.{Watched}
 
@@ -25,8 +25,12 @@ abbrev pub is_cancelled : Watched → IdKey → Bool
 is_cancelled w (Retried sides line) = cancelled_at (agent_of w.requesters w.homes sides) (w.lines line.0)
 is_cancelled w other = false
 
+-- nor is an id of a line that is set aside
+abbrev pub is_id_open : Watched → OpenId → Bool
+is_id_open w id = not (is_cancelled w id.key) && not (is_aside (w.lines id.line.0))
+
 abbrev pub has_open_id : Watched → Bool
-has_open_id w = list_any (λ id. not (is_cancelled w id.key)) (values_of w.ids)
+has_open_id w = list_any (is_id_open w) (values_of w.ids)
 
 -- credits that are owed or unused
 abbrev pub is_account_open : Account → Bool

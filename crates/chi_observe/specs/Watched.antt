@@ -1,7 +1,8 @@
 -- A watch over a trace: what its flits have told, and which flits it takes (docs/OBSERVER.md, "A trace of many lines").
-use Rattle.std.specs.Prelude.{◌≡◌, ℕ, ◌+◌, ◌||◌, Bool, true, not, List, [], Option, Some, None, Result, Ok, Err, if◌then◌else◌, is_none, unwrap_or}
+use Rattle.std.specs.Prelude.{◌≡◌, ℕ, ◌+◌, ◌==◌, ◌&&◌, ◌||◌, Bool, true, false, not, List, [], Option, Some, None, Result, Ok, Err, if◌then◌else◌, is_none, is_some, unwrap_or}
 use Rattle.chi_flit.specs.declared.numbers.Agent.{Agent}
 use Rattle.chi_trace.specs.declared.fields.NodeId.{NodeId}
+use Rattle.chi_trace.specs.declared.fields.PcrdType.{PcrdType}
 use Rattle.chi_observe.specs.declared.lines.LineNews.{LineNews}
 use Rattle.chi_observe.specs.declared.steps.Part.{Part}
 use Rattle.chi_observe.specs.declared.steps.Part.TheVariants as parts
@@ -12,7 +13,7 @@ use Rattle.chi_observe.specs.declared.events.Event.{Event}
 use Rattle.chi_observe.specs.declared.events.Event.TheVariants as events
 use Rattle.chi_observe.specs.declared.events.LineEvent.{LineEvent}
 use Rattle.chi_observe.specs.declared.events.Tells.{Tells}
-use Rattle.chi_observe.specs.declared.events.Tells.TheVariants.{NoForm}
+use Rattle.chi_observe.specs.declared.events.Tells.TheVariants.{NoForm, Unjudged}
 use Rattle.chi_observe.specs.declared.ids.CacheLine.{CacheLine}
 use Rattle.chi_observe.specs.declared.ids.KeyNumbers.{KeyNumbers}
 use Rattle.chi_observe.specs.declared.ids.OpenId.{OpenId}
@@ -64,7 +65,7 @@ abbrev pub nothing_watched : WatchOptions → Watched
 nothing_watched options = record { options = options; requesters = []; homes = []; ids = []; accounts = []; lines = λ l. None; counts = nothing_counted }
 
 abbrev pub table_in : Watched → Table
-table_in w = record { ids = w.ids; accounts = w.accounts }
+table_in w = record { ids = w.ids; accounts = w.accounts; aside = λ l. is_aside (w.lines l) }
 
 -- what a flit does to ids and credits; a RESP that no flit of the opcode has is a fault
 abbrev pub formed : Tells → Result Change IdReason → Result Change IdReason
@@ -74,9 +75,13 @@ formed tells change = change
 abbrev pub allowed : Watched → LineEvent → Result Change IdReason
 allowed w e = formed e.tells (change_of w.options (table_in w) e.sides e.step e.at e.tells)
 
--- what it tells its line's observer
+-- what it tells its line's observer: by the agent that its requester is, if it is judged
+abbrev pub agent_by : Watched → Sides → Tells → Option Agent
+agent_by w sides Unjudged = None
+agent_by w sides tells = agent_of w.requesters w.homes sides
+
 abbrev pub agent_in : Watched → LineEvent → Option Agent
-agent_in w e = agent_of w.requesters w.homes e.sides
+agent_in w e = agent_by w e.sides e.tells
 
 abbrev pub news_in : Watched → LineEvent → Change → LineNews
 news_in w e change = news_of e.tells change.part (agent_in w e)

@@ -18,6 +18,8 @@ pub enum Tells {
     Sent(Act, Data),
     /// The same of the home.
     Given(Grant, Data),
+    /// It isn't judged.
+    Unjudged,
     /// No flit of the opcode has this RESP.
     NoForm(Resp),
 }
@@ -61,6 +63,7 @@ pub(crate) fn flit_by(tells: Tells, agent: Option<Agent>) -> Option<Flit>
             grant,
             shown,
         })),
+        Tells::Unjudged => None,
         Tells::NoForm(_) => None,
     }
 }
@@ -73,6 +76,7 @@ impl Tells {
         match self {
             Tells::Sent(_, words) => words,
             Tells::Given(_, words) => words,
+            Tells::Unjudged => NO_DATA,
             Tells::NoForm(_) => NO_DATA,
         }
     }
@@ -84,6 +88,7 @@ impl Tells {
         match self {
             Tells::Sent(act, _) => Tells::Sent(act, words),
             Tells::Given(grant, _) => Tells::Given(grant, words),
+            Tells::Unjudged => Tells::Unjudged,
             Tells::NoForm(resp) => Tells::NoForm(resp),
         }
     }

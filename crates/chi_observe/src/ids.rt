@@ -1,7 +1,7 @@
 //! The ids that are open.
 
 ghost use Rattle.std.specs.Prelude.{◌≡◌};
-ghost use Rattle.chi_observe.specs.Ids.{id_of, is_followed, is_kept_for, numbers_of, opened_id};
+ghost use Rattle.chi_observe.specs.Ids.{id_of, is_alike, is_followed, is_kept_for, is_unknown, numbers_of, opened_id, sides_of};
 
 use crate::events::Tells;
 use chi_observer::{Kind, Snoop};
@@ -45,18 +45,52 @@ pub enum Purpose {
     Request { kind: Kind, first: bool },
     /// A snoop.
     Snoop(Snoop),
+    /// A flit whose opcode isn't known, or one of a line that is set aside; which is a first attempt, or isn't.
+    Unknown { first: bool },
 }
 
 impl Purpose {
-    /// Whether the home keeps a DBID for it from its completion on, which CompAck or write data name.
+    /// Whether its completion has to name a DBID, by which the home keeps it until CompAck or write data come.
     pub(crate) fn is_kept_for(self) -> bool
         ensures { result ≡ is_kept_for self }
     {
         match self {
             Purpose::Request { kind, first: _ } => is_followed(kind),
             Purpose::Snoop(_) => false,
+            Purpose::Unknown { first: _ } => false,
         }
     }
+
+    /// Whether it isn't known.
+    pub(crate) fn is_unknown(self) -> bool
+        ensures { result ≡ is_unknown self }
+    {
+        match self {
+            Purpose::Request { kind: _, first: _ } => false,
+            Purpose::Snoop(_) => false,
+            Purpose::Unknown { first: _ } => true,
+        }
+    }
+}
+
+/// The two nodes of a key.
+pub(crate) fn sides_of(key: IdKey) -> Sides
+    ensures { result ≡ sides_of key }
+{
+    match key {
+        IdKey::Request(sides, _) => sides,
+        IdKey::Buffer(sides, _) => sides,
+        IdKey::Snoop(sides, _) => sides,
+        IdKey::Retried(sides, _) => sides,
+    }
+}
+
+/// Whether a key is another one but for its home.
+pub(crate) fn is_alike(key: IdKey, other: IdKey) -> bool
+    ensures { result ≡ is_alike key other }
+{
+    let (one, other) = (numbers_of(key), numbers_of(other));
+    one.sort == other.sort && (one.requester == other.requester && one.number == other.number)
 }
 
 /// Whether a CompAck or write data follow the completion of such a request.

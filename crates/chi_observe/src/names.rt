@@ -72,8 +72,7 @@ fn any_resp_of(flit: &AnyFlit) -> Option<Resp> {
         AnyFlit::CompUC { .. } => Some(Resp::UC),
         AnyFlit::CompData { resp, .. } => Some(*resp),
         AnyFlit::NonCopyBackWrData { resp, .. } => Some(*resp),
-        AnyFlit::Request { .. } => None,
-        AnyFlit::Snoop { .. } => None,
+        _ => None,
     }
 }
 
@@ -82,6 +81,7 @@ fn is_again(flit: &AnyFlit) -> bool {
     match flit {
         AnyFlit::Profile(Flit::Request { spends, .. }) => spends.is_some(),
         AnyFlit::Request { fields, .. } => fields.spends.is_some(),
+        AnyFlit::UnknownRequest(fields) => fields.spends.is_some(),
         _ => false,
     }
 }
@@ -199,6 +199,8 @@ fn asked_by(flit: &AnyFlit) -> Option<NodeId> {
         AnyFlit::Snoop { fields, .. } => Some(fields.target),
         AnyFlit::CompUC { transaction } => Some(transaction.target),
         AnyFlit::CompData { transaction, .. } => Some(transaction.target),
+        AnyFlit::UnknownSnoop(fields) => Some(fields.target),
+        AnyFlit::UnknownReply(transaction, _) => Some(transaction.target),
         _ => None,
     }
 }

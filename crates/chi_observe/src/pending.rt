@@ -2,13 +2,13 @@
 
 ghost use Rattle.std.specs.Prelude.{◌≡◌};
 ghost use Rattle.std.specs.List.{list_any};
-ghost use Rattle.chi_observe.specs.Pending.{has_open_account, has_open_id, is_account_open, is_cancelled, is_cancelled_at, is_open};
+ghost use Rattle.chi_observe.specs.Pending.{has_open_account, has_open_id, is_account_open, is_cancelled, is_cancelled_at, is_id_open, is_open};
 ghost use Rattle.chi_observe.specs.Lines.{line_state};
 ghost use Rattle.chi_observe.specs.Watched.{watched};
 
 use crate::credits::Account;
 use crate::ids::{IdKey, OpenId, Purpose, Sides};
-use crate::lines::LineSeen;
+use crate::lines::{LineSeen, is_aside};
 use crate::names::{KindName, LineName, NodeName, SnoopName};
 use crate::nodes::agent_of;
 use crate::watch::Watch;
@@ -54,12 +54,19 @@ impl<A: Allocator> Watch<A> {
         }
     }
 
+    /// Whether an id is open that is of a line which isn't set aside.
+    fn is_id_open(&self, id: &OpenId) -> bool
+        ensures { result ≡ is_id_open (watched self.now) id.now }
+    {
+        !self.is_cancelled(id) && !is_aside(&self.lines, id.line)
+    }
+
     /// Whether some id is open.
     fn has_open_id(&self) -> bool
         ensures { result ≡ has_open_id (watched self.now) }
     {
         let ids = self.ids.values().as_slice();
-        ids.iter().any(|id| !self.is_cancelled(id))
+        ids.iter().any(|id| self.is_id_open(id))
     }
 
     /// Whether some account is open.
@@ -124,6 +131,7 @@ impl fmt::Display for PurposeName {
                 let snoop = SnoopName(snoop);
                 write!(f, "{snoop} to")
             }
+            Purpose::Unknown { first: _ } => write!(f, "another flit of"),
         }
     }
 }
@@ -151,7 +159,7 @@ impl<A: Allocator> Watch<A> {
     /// Puts a line for each thing that is open behind the text.
     pub(crate) fn write_open(&self, text: &mut String<A>) -> Result<(), AllocError> {
         for id in self.ids.values().as_slice() {
-            if !self.is_cancelled(id) {
+            if self.is_id_open(id) {
                 let id = OpenText(*id);
                 writeln!(text, "open: {id}")?;
             }

@@ -448,5 +448,31 @@ pub fn event_of(seen: &AnySeen) -> Event
             IdStep::WriteData(named_buffer(transaction), beat.there),
             whole_written_told(*resp, beat),
         ),
+        AnyFlit::UnknownRequest(fields) => up(
+            seen,
+            fields.target,
+            None,
+            IdStep::UnknownRequest(fields.txn, line_of(fields.address), fields.spends),
+            Tells::Unjudged,
+        ),
+        AnyFlit::UnknownSnoop(fields) => down(
+            seen,
+            fields.target,
+            None,
+            IdStep::UnknownSnoop(fields.txn, line_of(fields.address)),
+            Tells::Unjudged,
+        ),
+        AnyFlit::UnknownAnswer(transaction) => up_in(
+            seen,
+            transaction,
+            IdStep::UnknownAnswer(transaction.txn),
+            Tells::Unjudged,
+        ),
+        AnyFlit::UnknownReply(transaction, dbid) => down_in(
+            seen,
+            transaction,
+            IdStep::UnknownReply(transaction.txn, *dbid),
+            Tells::Unjudged,
+        ),
     }
 }

@@ -3,11 +3,16 @@
 ghost use Rattle.std.specs.Prelude.{◌≡◌};
 ghost use Rattle.std.specs.List.{count_by};
 ghost use Rattle.chi_observe.specs.Ids.{opened_id};
-ghost use Rattle.chi_observe.specs.Steps.{acknowledged, again_of, attempt_of, attempts, beat_of, booking_of, change_of, completed, freed, first_beat, granted, is_attempt, is_again, kept_with, lacks_some, later_beat, left_of, named, new_buffer, new_id, plain_change, read_data, retried, returned, right_type, snooped, table_of, told_with, waiting_of, word_with, words_with, lacking, early_of, is_word_again, attempted_kind};
+ghost use Rattle.chi_observe.specs.Steps.{acknowledged, again_of, attempt_of, attempts, beat_of, booking_of, change_of, completed, freed, first_beat, granted, is_attempt, is_again, kept_with, lacks_some, later_beat, left_of, named, new_buffer, new_id, plain_change, read_data, retried, returned, right_type, snooped, table_of, told_with, waiting_of, word_with, words_with, lacking, early_of, is_word_again, attempted_kind, freed_key, in_line, is_stray, judged_again, judged_attempt, judged_snoop, kept_id, spent_if, stray, stray_id, turned, unknown_answer, unknown_buffer, unknown_id, unknown_named, unknown_reply, unknown_request, unknown_response, unknown_snoop, wanted_type};
+ghost use Rattle.std.specs.List.{find};
+ghost use Rattle.chi_observe.specs.declared.credits.CreditEvent.TheVariants as events;
 
 use crate::credits::{AccountTable, Booking, CreditEvent, CreditTypes, find_account};
 use crate::events::Tells;
-use crate::ids::{CacheLine, IdKey, IdTable, OpenId, Purpose, Sides, find_id, opened_id};
+use crate::ids::{
+    CacheLine, IdKey, IdTable, OpenId, Purpose, Sides, find_id, is_alike, opened_id, sides_of,
+};
+use crate::lines::{LineTable, is_aside};
 use crate::reasons::IdReason;
 use chi_flit::Data;
 use chi_observer::{Kind, Snoop};
@@ -47,6 +52,15 @@ pub enum IdStep {
     Acknowledge(DbId),
     /// A beat of write data.
     WriteData(DbId, [bool; 8]),
+    /// A request whose kind isn't known, and the type of the credit that it spends without AllowRetry.
+    UnknownRequest(TxnId, CacheLine, Option<PcrdType>),
+    /// A snoop that isn't known.
+    UnknownSnoop(TxnId, CacheLine),
+    /// An answer that isn't known.
+    UnknownAnswer(TxnId),
+    /// A response, or data, that aren't known, and the DBID that they name, if any: of the home by the id of a request, or of
+    /// a requester by a DBID.
+    UnknownReply(TxnId, Option<DbId>),
 }
 
 /// What part of its data a flit is.
@@ -81,6 +95,7 @@ pub(crate) struct Tables<'a, A: Allocator> {
     pub options: WatchOptions,
     pub ids: &'a IdTable<A>,
     pub accounts: &'a AccountTable<A>,
+    pub lines: &'a LineTable<A>,
 }
 
 /// A flit that neither frees, opens nor books.
@@ -94,6 +109,47 @@ fn plain_change(line: CacheLine) -> Change
         opens: None,
         books: None,
         part: Part::Whole,
+    }
+}
+
+/// The id, which is of the line that is named, if one is.
+fn in_line(found: OpenId, at: Option<CacheLine>) -> Result<OpenId, IdReason>
+    ensures { result ≡ in_line at found }
+{
+    match at {
+        Some(named) if named.0 != found.line.0 => Err(IdReason::WrongAddress {
+            named,
+            line: found.line,
+        }),
+        Some(_) | None => Ok(found),
+    }
+}
+
+/// An id of which only its line is known.
+fn unknown_id(key: IdKey, line: CacheLine) -> OpenId
+    ensures { result ≡ unknown_id key line }
+{
+    opened_id(key, line, Purpose::Unknown { first: false })
+}
+
+/// The key that a flit which names this id frees: none of one that isn't known.
+fn freed_key(found: &OpenId) -> Option<IdKey>
+    ensures { result ≡ freed_key found.now }
+{
+    if found.purpose.is_unknown() {
+        None
+    } else {
+        Some(found.key)
+    }
+}
+
+/// The nodes, each on the other side.
+fn turned(sides: Sides) -> Sides
+    ensures { result ≡ turned sides }
+{
+    Sides {
+        requester: sides.home,
+        home: sides.requester,
     }
 }
 
@@ -247,18 +303,68 @@ fn is_attempt(id: &OpenId, sides: Sides) -> bool
         (IdKey::Request(of, _), Purpose::Request { kind: _, first }) => {
             first && (of.home.0 == sides.home.0 && of.requester.0 == sides.requester.0)
         }
+        (IdKey::Request(of, _), Purpose::Unknown { first }) => {
+            first && (of.home.0 == sides.home.0 && of.requester.0 == sides.requester.0)
+        }
         _ => false,
     }
 }
 
 impl<A: Allocator> Tables<'_, A> {
-    /// The key, which no open id has.
+    /// Whether the line is set aside.
+    fn is_aside(&self, line: CacheLine) -> bool
+        ensures { result ≡ (table_of self.now).aside line.0 }
+    {
+        is_aside(self.lines, line)
+    }
+
+    /// The key, which no open id has but one of a line that is set aside.
     fn new_id(&self, key: IdKey) -> Result<IdKey, IdReason>
         ensures { result ≡ new_id (table_of self.now) key }
     {
         match find_id(self.ids, key) {
-            Some(_) => Err(IdReason::InUse(key)),
+            Some(found) => {
+                if self.is_aside(found.line) {
+                    Ok(key)
+                } else {
+                    Err(IdReason::InUse(key))
+                }
+            }
             None => Ok(key),
+        }
+    }
+
+    /// Whether an id is of a line that is set aside, and has this key but for its home.
+    fn is_stray(&self, id: &OpenId, key: IdKey) -> bool
+        ensures { result ≡ is_stray (table_of self.now) key id.now }
+    {
+        is_alike(key, id.key) && self.is_aside(id.line)
+    }
+
+    /// The first such id.
+    fn stray_id(&self, key: IdKey) -> Option<OpenId>
+        ensures { result ≡ stray_id (table_of self.now) key }
+    {
+        let ids = self.ids.values().as_slice();
+        match ids.iter().find(|id| self.is_stray(id, key)) {
+            Some(id) => Some(unknown_id(id.key, id.line)),
+            None => None,
+        }
+    }
+
+    /// What a flit that names no open id is of: of the line of its address, or of an id of its requester, that are set aside.
+    fn stray(&self, key: IdKey, at: Option<CacheLine>) -> Option<OpenId>
+        ensures { result ≡ stray (table_of self.now) key at }
+    {
+        match at {
+            Some(line) => {
+                if self.is_aside(line) {
+                    Some(unknown_id(key, line))
+                } else {
+                    None
+                }
+            }
+            None => self.stray_id(key),
         }
     }
 
@@ -266,13 +372,9 @@ impl<A: Allocator> Tables<'_, A> {
     fn named(&self, key: IdKey, at: Option<CacheLine>) -> Result<OpenId, IdReason>
         ensures { result ≡ named (table_of self.now) key at }
     {
-        let found = find_id(self.ids, key).ok_or(IdReason::NotOpen(key))?;
-        match at {
-            Some(named) if named.0 != found.line.0 => Err(IdReason::WrongAddress {
-                named,
-                line: found.line,
-            }),
-            Some(_) | None => Ok(found),
+        match find_id(self.ids, key) {
+            Some(found) => in_line(found, at),
+            None => self.stray(key, at).ok_or(IdReason::NotOpen(key)),
         }
     }
 
@@ -287,8 +389,7 @@ impl<A: Allocator> Tables<'_, A> {
         }
     }
 
-    /// A request that is sent for the first time. One that was retried before is cancelled.
-    #[tactic(auto, unfolding(crate::specs::Steps::attempt_of))]
+    /// A request that is sent for the first time.
     fn attempt(
         &self,
         sides: Sides,
@@ -297,6 +398,24 @@ impl<A: Allocator> Tables<'_, A> {
         line: CacheLine,
     ) -> Result<Change, IdReason>
         ensures { result ≡ attempt_of (table_of self.now) sides txn kind line }
+    {
+        if self.is_aside(line) {
+            self.unknown_request(sides, txn, line, None)
+        } else {
+            self.judged_attempt(sides, txn, kind, line)
+        }
+    }
+
+    /// The same to a line that is judged. One that was retried before is cancelled.
+    #[tactic(auto, unfolding(crate::specs::Steps::judged_attempt))]
+    fn judged_attempt(
+        &self,
+        sides: Sides,
+        txn: TxnId,
+        kind: Kind,
+        line: CacheLine,
+    ) -> Result<Change, IdReason>
+        ensures { result ≡ judged_attempt (table_of self.now) sides txn kind line }
     {
         let key = self.new_id(IdKey::Request(sides, txn))?;
         let purpose = Purpose::Request { kind, first: true };
@@ -307,8 +426,7 @@ impl<A: Allocator> Tables<'_, A> {
         })
     }
 
-    /// A request that is sent again: it takes a credit of the type that its RetryAck has named.
-    #[tactic(auto, unfolding(crate::specs::Steps::again_of))]
+    /// A request that is sent again.
     fn again(
         &self,
         sides: Sides,
@@ -318,6 +436,25 @@ impl<A: Allocator> Tables<'_, A> {
         pcrd: PcrdType,
     ) -> Result<Change, IdReason>
         ensures { result ≡ again_of (table_of self.now) sides txn kind line pcrd }
+    {
+        if self.is_aside(line) {
+            self.unknown_request(sides, txn, line, Some(pcrd))
+        } else {
+            self.judged_again(sides, txn, kind, line, pcrd)
+        }
+    }
+
+    /// The same to a line that is judged: it takes a credit of the type that its RetryAck has named.
+    #[tactic(auto, unfolding(crate::specs::Steps::judged_again))]
+    fn judged_again(
+        &self,
+        sides: Sides,
+        txn: TxnId,
+        kind: Kind,
+        line: CacheLine,
+        pcrd: PcrdType,
+    ) -> Result<Change, IdReason>
+        ensures { result ≡ judged_again (table_of self.now) sides txn kind line pcrd }
     {
         let key = self.new_id(IdKey::Request(sides, txn))?;
         let old = IdKey::Retried(sides, line);
@@ -337,7 +474,6 @@ impl<A: Allocator> Tables<'_, A> {
     }
 
     /// A snoop.
-    #[tactic(auto, unfolding(crate::specs::Steps::snooped))]
     fn snoop(
         &self,
         sides: Sides,
@@ -347,11 +483,146 @@ impl<A: Allocator> Tables<'_, A> {
     ) -> Result<Change, IdReason>
         ensures { result ≡ snooped (table_of self.now) sides txn snoop line }
     {
+        if self.is_aside(line) {
+            self.unknown_snoop(sides, txn, line)
+        } else {
+            self.judged_snoop(sides, txn, snoop, line)
+        }
+    }
+
+    /// The same to a line that is judged.
+    #[tactic(auto, unfolding(crate::specs::Steps::judged_snoop))]
+    fn judged_snoop(
+        &self,
+        sides: Sides,
+        txn: TxnId,
+        snoop: Snoop,
+        line: CacheLine,
+    ) -> Result<Change, IdReason>
+        ensures { result ≡ judged_snoop (table_of self.now) sides txn snoop line }
+    {
         let key = self.new_id(IdKey::Snoop(sides, txn))?;
         Ok(Change {
             opens: Some(opened_id(key, line, Purpose::Snoop(snoop))),
             ..plain_change(line)
         })
+    }
+
+    /// One more credit of the type is spent, where there is one.
+    fn spent(&self, sides: Sides, pcrd: PcrdType) -> Option<Booking>
+        ensures { result ≡ spent_if (booking_of (table_of self.now) sides pcrd events.Resent) }
+    {
+        let booking = self.booking(sides, pcrd, CreditEvent::Resent);
+        if booking.account.unused() == 0 {
+            None
+        } else {
+            Some(booking)
+        }
+    }
+
+    /// A request whose kind isn't known, or to a line that is set aside.
+    #[tactic(auto, unfolding(crate::specs::Steps::unknown_request))]
+    fn unknown_request(
+        &self,
+        sides: Sides,
+        txn: TxnId,
+        line: CacheLine,
+        spends: Option<PcrdType>,
+    ) -> Result<Change, IdReason>
+        ensures { result ≡ unknown_request (table_of self.now) sides txn line spends }
+    {
+        let key = self.new_id(IdKey::Request(sides, txn))?;
+        let first = spends.is_none();
+        let change = Change {
+            opens: Some(opened_id(key, line, Purpose::Unknown { first })),
+            ..plain_change(line)
+        };
+        match spends {
+            None => Ok(change),
+            Some(pcrd) => Ok(Change {
+                frees: Some(IdKey::Retried(sides, line)),
+                books: self.spent(sides, pcrd),
+                ..change
+            }),
+        }
+    }
+
+    /// A snoop that isn't known, or to a line that is set aside.
+    #[tactic(auto, unfolding(crate::specs::Steps::unknown_snoop))]
+    fn unknown_snoop(&self, sides: Sides, txn: TxnId, line: CacheLine) -> Result<Change, IdReason>
+        ensures { result ≡ unknown_snoop (table_of self.now) sides txn line }
+    {
+        let key = self.new_id(IdKey::Snoop(sides, txn))?;
+        Ok(Change {
+            opens: Some(unknown_id(key, line)),
+            ..plain_change(line)
+        })
+    }
+
+    /// The open id that a flit which isn't known names; where there is none, its address alone says the line.
+    fn unknown_named(&self, key: IdKey, at: Option<CacheLine>) -> Result<OpenId, IdReason>
+        ensures { result ≡ unknown_named (table_of self.now) key at }
+    {
+        match find_id(self.ids, key) {
+            Some(found) => in_line(found, at),
+            None => match at {
+                Some(line) => Ok(unknown_id(key, line)),
+                None => self.stray_id(key).ok_or(IdReason::NotOpen(key)),
+            },
+        }
+    }
+
+    /// An answer that isn't known: of the line alone.
+    fn unknown_answer(&self, key: IdKey, at: Option<CacheLine>) -> Result<Change, IdReason>
+        ensures { result ≡ unknown_answer (table_of self.now) key at }
+    {
+        let found = self.unknown_named(key, at)?;
+        Ok(plain_change(found.line))
+    }
+
+    /// The DBID that a response which isn't known names, if it names one.
+    fn unknown_buffer(&self, found: &OpenId, dbid: Option<DbId>) -> Result<Option<OpenId>, IdReason>
+        ensures { result ≡ unknown_buffer (table_of self.now) found.now dbid }
+    {
+        match dbid {
+            None => Ok(None),
+            Some(dbid) => self.new_buffer(found, Some(dbid)),
+        }
+    }
+
+    /// A response of the home that isn't known.
+    #[tactic(auto, unfolding(crate::specs::Steps::unknown_response))]
+    fn unknown_response(
+        &self,
+        key: IdKey,
+        dbid: Option<DbId>,
+        at: Option<CacheLine>,
+    ) -> Result<Change, IdReason>
+        ensures { result ≡ unknown_response (table_of self.now) key dbid at }
+    {
+        let found = self.unknown_named(key, at)?;
+        let opens = self.unknown_buffer(&found, dbid)?;
+        Ok(Change {
+            opens,
+            ..plain_change(found.line)
+        })
+    }
+
+    /// A response, or data, that aren't known: of a requester where it names a DBID that is open, else of the home.
+    fn unknown_reply(
+        &self,
+        sides: Sides,
+        txn: TxnId,
+        dbid: Option<DbId>,
+        at: Option<CacheLine>,
+    ) -> Result<Change, IdReason>
+        ensures { result ≡ unknown_reply (table_of self.now) sides txn dbid at }
+    {
+        let kept = IdKey::Buffer(turned(sides), DbId(txn.0));
+        match find_id(self.ids, kept) {
+            Some(found) => Ok(plain_change(in_line(found, at)?.line)),
+            None => self.unknown_response(IdKey::Request(sides, txn), dbid, at),
+        }
     }
 
     /// A RetryAck: the request waits for a credit of the type.
@@ -368,7 +639,7 @@ impl<A: Allocator> Tables<'_, A> {
         let key = IdKey::Request(sides, txn);
         let found = self.freed(key, at)?;
         let kind = attempt_of(&found).ok_or(IdReason::NotRetryable(key))?;
-        let pcrd = right_type(pcrd, self.options.types.wanted(kind))?;
+        let pcrd = right_type(pcrd, self.wanted(kind))?;
         Ok(Change {
             frees: Some(key),
             opens: Some(waiting_of(&found, sides, pcrd)),
@@ -377,21 +648,42 @@ impl<A: Allocator> Tables<'_, A> {
         })
     }
 
-    /// The DBID that a completion opens, where a CompAck or write data follow.
-    fn new_buffer(
-        &self,
-        sides: Sides,
-        found: &OpenId,
-        dbid: Option<DbId>,
-    ) -> Result<Option<OpenId>, IdReason>
-        ensures { result ≡ new_buffer (table_of self.now) sides found.now dbid }
+    /// The type that a RetryAck has to name; `None` where it may be any, as of a kind that isn't known.
+    fn wanted(&self, kind: Option<Kind>) -> Option<PcrdType>
+        ensures { result ≡ wanted_type self.now.options kind }
     {
-        if !found.purpose.is_kept_for() {
-            return Ok(None);
+        match kind {
+            Some(kind) => self.options.types.wanted(kind),
+            None => None,
         }
-        let dbid = dbid.ok_or(IdReason::NoDbid(found.key))?;
-        let key = self.new_id(IdKey::Buffer(sides, dbid))?;
+    }
+
+    /// A DBID is opened for the id.
+    fn kept_id(&self, found: &OpenId, dbid: DbId) -> Result<Option<OpenId>, IdReason>
+        ensures { result ≡ kept_id (table_of self.now) found.now dbid }
+    {
+        let key = self.new_id(IdKey::Buffer(sides_of(found.key), dbid))?;
         Ok(Some(opened_id(key, found.line, found.purpose)))
+    }
+
+    /// The DBID that a completion opens, where a CompAck or write data follow.
+    fn new_buffer(&self, found: &OpenId, dbid: Option<DbId>) -> Result<Option<OpenId>, IdReason>
+        ensures { result ≡ new_buffer (table_of self.now) found.now dbid }
+    {
+        if found.purpose.is_kept_for() {
+            let dbid = dbid.ok_or(IdReason::NoDbid(found.key))?;
+            return self.kept_id(found, dbid);
+        }
+        match dbid {
+            Some(dbid) => {
+                if found.purpose.is_unknown() {
+                    self.kept_id(found, dbid)
+                } else {
+                    Ok(None)
+                }
+            }
+            None => Ok(None),
+        }
     }
 
     /// A completion without data that may open a DBID.
@@ -407,9 +699,9 @@ impl<A: Allocator> Tables<'_, A> {
     {
         let key = IdKey::Request(sides, txn);
         let found = self.freed(key, at)?;
-        let opens = self.new_buffer(sides, &found, dbid)?;
+        let opens = self.new_buffer(&found, dbid)?;
         Ok(Change {
-            frees: Some(key),
+            frees: freed_key(&found),
             opens,
             ..plain_change(found.line)
         })
@@ -421,7 +713,7 @@ impl<A: Allocator> Tables<'_, A> {
     {
         let found = self.freed(key, at)?;
         Ok(Change {
-            frees: Some(key),
+            frees: freed_key(&found),
             ..plain_change(found.line)
         })
     }
@@ -437,6 +729,9 @@ impl<A: Allocator> Tables<'_, A> {
         ensures { result ≡ beat_of (table_of self.now) key there.now at tells }
     {
         let found = self.named(key, at)?;
+        if found.purpose.is_unknown() {
+            return Ok(plain_change(found.line));
+        }
         match found.lacks {
             None => Ok(first_beat(&found, left_of(&[true; 8], there), tells)),
             Some(lacks) => {
@@ -468,7 +763,7 @@ impl<A: Allocator> Tables<'_, A> {
         match change.part {
             Part::Further | Part::Last(_) => Ok(change),
             Part::Whole | Part::First => {
-                let opens = self.new_buffer(sides, &found, dbid)?;
+                let opens = self.new_buffer(&found, dbid)?;
                 Ok(Change { opens, ..change })
             }
         }
@@ -555,6 +850,12 @@ impl<A: Allocator> Tables<'_, A> {
                 tells,
             ),
             IdStep::Acknowledge(dbid) => self.acknowledge(IdKey::Buffer(sides, *dbid), at),
+            IdStep::UnknownRequest(txn, line, spends) => {
+                self.unknown_request(sides, *txn, *line, *spends)
+            }
+            IdStep::UnknownSnoop(txn, line) => self.unknown_snoop(sides, *txn, *line),
+            IdStep::UnknownAnswer(txn) => self.unknown_answer(IdKey::Snoop(sides, *txn), at),
+            IdStep::UnknownReply(txn, dbid) => self.unknown_reply(sides, *txn, *dbid, at),
             IdStep::WriteData(dbid, there) => self.beat(
                 IdKey::Buffer(sides, *dbid),
                 there,
@@ -565,16 +866,18 @@ impl<A: Allocator> Tables<'_, A> {
     }
 }
 
-/// The kind of a request with AllowRetry.
-fn attempt_of(found: &OpenId) -> Option<Kind>
+/// The kind of a request with AllowRetry, where it is known.
+fn attempt_of(found: &OpenId) -> Option<Option<Kind>>
     ensures { result ≡ attempted_kind found.now.purpose }
 {
     match found.purpose {
-        Purpose::Request { kind, first: true } => Some(kind),
+        Purpose::Request { kind, first: true } => Some(Some(kind)),
+        Purpose::Unknown { first: true } => Some(None),
         Purpose::Request {
             kind: _,
             first: false,
         }
+        | Purpose::Unknown { first: false }
         | Purpose::Snoop(_) => None,
     }
 }

@@ -326,6 +326,10 @@ impl<A: Allocator> Watch<A> {
             IdStep::AnswerData(txn, _) => IdKey::Snoop(sides, txn),
             IdStep::Acknowledge(dbid) => IdKey::Buffer(sides, dbid),
             IdStep::WriteData(dbid, _) => IdKey::Buffer(sides, dbid),
+            IdStep::UnknownRequest(_, line, _) => return Some(line),
+            IdStep::UnknownSnoop(_, line) => return Some(line),
+            IdStep::UnknownAnswer(txn) => IdKey::Snoop(sides, txn),
+            IdStep::UnknownReply(txn, _) => IdKey::Request(sides, txn),
         };
         match (event.at, find_id(&self.ids, key)) {
             (Some(line), _) => Some(line),

@@ -5,8 +5,8 @@ ghost use Rattle.chi_observe.specs.declared.watch.WatchStop.TheVariants.{NoMemor
 ghost use Rattle.chi_observe.specs.Ids.{with_id, without};
 ghost use Rattle.chi_observe.specs.Credits.{booked, booked_all};
 ghost use Rattle.chi_observe.specs.Lines.{lines_in};
-ghost use Rattle.chi_observe.specs.Steps.{granted, ids_after, returned};
-ghost use Rattle.chi_observe.specs.Watched.{IsCreditWatched, IsFlitWatched, IsWatched, access_after, allowed, booking_after, counts_after, counts_aside, counts_first, mark_of, nothing_watched, settled, table_in, watched};
+ghost use Rattle.chi_observe.specs.Steps.{granted, ids_after, returned, table_of};
+ghost use Rattle.chi_observe.specs.Watched.{IsCreditWatched, IsFlitWatched, IsWatched, access_after, agent_in, allowed, booking_after, counts_after, counts_aside, counts_first, mark_of, nothing_watched, settled, table_in, watched};
 
 use crate::credits::{AccountTable, Booking, account_numbers};
 use crate::events::{Event, LineEvent, Tells, news_of};
@@ -227,16 +227,16 @@ impl<A: Allocator + Copy> Watch<A> {
 }
 
 impl<A: Allocator> Watch<A> {
-    /// What is open.
+    /// What is open, and which lines are set aside.
     fn tables(&self) -> Tables<'_, A>
         ensures options { result.options ≡ self.now.options }
-        ensures ids { result.ids.now.entries ≡ self.now.ids.entries }
-        ensures accounts { result.accounts.now.entries ≡ self.now.accounts.entries }
+        ensures table { table_of result ≡ table_in (watched self.now) }
     {
         Tables {
             options: self.options,
             ids: &self.ids,
             accounts: &self.accounts,
+            lines: &self.lines,
         }
     }
 
@@ -246,7 +246,7 @@ impl<A: Allocator> Watch<A> {
     {
         match event.tells {
             Tells::NoForm(resp) => Err(IdReason::Form(resp)),
-            Tells::Sent(_, _) | Tells::Given(_, _) => {
+            Tells::Sent(_, _) | Tells::Given(_, _) | Tells::Unjudged => {
                 self.tables()
                     .change(event.sides, &event.step, event.at, event.tells)
             }
@@ -322,6 +322,18 @@ impl<A: Allocator> Watch<A> {
         Ok(())
     }
 
+    /// The agent that a flit's requester is; none where the flit isn't judged.
+    fn agent_in(&self, event: &LineEvent) -> Option<Agent>
+        ensures { result ≡ agent_in (watched self.now) event.now }
+    {
+        match event.tells {
+            Tells::Unjudged => None,
+            Tells::Sent(_, _) | Tells::Given(_, _) | Tells::NoForm(_) => {
+                agent_of(&self.requesters, &self.homes, event.sides)
+            }
+        }
+    }
+
     /// Takes a flit of a line that ids and credits allow.
     fn take_allowed(&mut self, event: &LineEvent, change: &Change) -> Result<(), WatchStop>
         ensures { IsFlitWatched (watched self.old) (watched self.new) event.now change.now result }
@@ -329,7 +341,7 @@ impl<A: Allocator> Watch<A> {
         if matches!(change.part, Part::Further) {
             return Ok(change_ids(&mut self.ids, change)?);
         }
-        let agent = agent_of(&self.requesters, &self.homes, event.sides);
+        let agent = self.agent_in(event);
         let news = news_of(event.tells, change.part, agent);
         let mark = mark_of(&self.lines, change.line, news, event.number);
         match tell(&mut self.lines, change.line, event.sides.home, news) {

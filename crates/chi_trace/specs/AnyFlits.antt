@@ -11,6 +11,7 @@ use Rattle.chi_trace.specs.declared.columns.Column.{Column}
 use Rattle.chi_trace.specs.declared.columns.Column.TheVariants as columns
 use Rattle.chi_trace.specs.declared.faults.TraceFault.{TraceFault}
 use Rattle.chi_trace.specs.declared.faults.TraceFault.TheVariants.{BadWord, FewWords}
+use Rattle.chi_trace.specs.declared.fields.DbId.{DbId}
 use Rattle.chi_trace.specs.declared.fields.Resp.{Resp}
 use Rattle.chi_trace.specs.declared.fields.Resp.TheVariants.{UC}
 use Rattle.chi_trace.specs.declared.flits.Flit.TheVariants as flits
@@ -20,7 +21,7 @@ use Rattle.chi_trace.specs.declared.opcodes.Opcode.TheVariants as opcodes
 use Rattle.chi_trace.specs.AnyOpcodes.{any_opcode_in}
 use Rattle.chi_trace.specs.Columns.{Row, first_word_of, row_behind}
 use Rattle.chi_trace.specs.Fields.{is_dash}
-use Rattle.chi_trace.specs.Flits.{◌>>=◌, beat_in, flit_by, flit_opcode, is_comment_word, request_fields_in, resp_in, snoop_fields_in, source_in, transaction_in}
+use Rattle.chi_trace.specs.Flits.{◌>>=◌, beat_in, dbid_in, flit_by, flit_opcode, is_comment_word, request_fields_in, resp_in, snoop_fields_in, source_in, transaction_in}
 use Rattle.chi_trace.specs.Opcodes.{channel_in}
 
 abbrev pub any_opcode_of : Row → Result AnyOpcode Column
@@ -73,12 +74,33 @@ profile_in opcodes.Comp row = any_comp_in row
 profile_in opcodes.CompData row = any_data_in row
 profile_in opcode row = whole_in opcode row
 
+-- a request and a snoop that have no name here have the columns of any other; a response and data have a transaction, and
+-- may name a DBID
+abbrev pub unknown_request_in : Row → Result AnyFlit Column
+unknown_request_in row = request_fields_in row >>= λ fields. Ok (any.UnknownRequest fields)
+
+abbrev pub unknown_snoop_in : Row → Result AnyFlit Column
+unknown_snoop_in row = snoop_fields_in row >>= λ fields. Ok (any.UnknownSnoop fields)
+
+abbrev pub unknown_answer_in : Row → Result AnyFlit Column
+unknown_answer_in row = transaction_in row >>= λ transaction. Ok (any.UnknownAnswer transaction)
+
+abbrev pub named_dbid_in : Row → Result (Option DbId) Column
+named_dbid_in row = if is_dash row.dbid then Ok None else dbid_in row >>= λ dbid. Ok (Some dbid)
+
+abbrev pub unknown_reply_in : Row → Result AnyFlit Column
+unknown_reply_in row = transaction_in row >>= λ transaction. named_dbid_in row >>= λ dbid. Ok (any.UnknownReply transaction dbid)
+
 -- the flit of each opcode
 abbrev pub any_flit_by : AnyOpcode → Row → Result AnyFlit Column
 any_flit_by (codes_any.Profile opcode) row = profile_in opcode row
 any_flit_by (codes_any.Request kind) row = other_request_in kind row
 any_flit_by (codes_any.Snoop snoop) row = other_snoop_flit snoop row
 any_flit_by codes_any.NonCopyBackWrData row = other_write_in row
+any_flit_by codes_any.UnknownRequest row = unknown_request_in row
+any_flit_by codes_any.UnknownSnoop row = unknown_snoop_in row
+any_flit_by codes_any.UnknownAnswer row = unknown_answer_in row
+any_flit_by codes_any.UnknownReply row = unknown_reply_in row
 
 -- the opcode of a flit
 abbrev pub any_opcode : AnyFlit → AnyOpcode
@@ -88,6 +110,10 @@ any_opcode (any.Snoop snoop fields) = codes_any.Snoop snoop
 any_opcode (any.CompUC transaction) = codes_any.Profile opcodes.Comp
 any_opcode (any.CompData resp transaction beat) = codes_any.Profile opcodes.CompData
 any_opcode (any.NonCopyBackWrData resp transaction beat) = codes_any.NonCopyBackWrData
+any_opcode (any.UnknownRequest fields) = codes_any.UnknownRequest
+any_opcode (any.UnknownSnoop fields) = codes_any.UnknownSnoop
+any_opcode (any.UnknownAnswer transaction) = codes_any.UnknownAnswer
+any_opcode (any.UnknownReply transaction dbid) = codes_any.UnknownReply
 
 -- the flit of line n with these columns, or the first column that is wrong
 unfoldable pub any_seen_in : ℕ → Row → Result AnySeen Column

@@ -7,7 +7,7 @@ ghost use Rattle.chi_trace.specs.Words.{blank_words};
 use crate::any_opcodes::{AnyOpcode, OtherKind, OtherSnoop};
 use crate::columns::columns_behind;
 use crate::faults::TraceFault;
-use crate::fields::{Beat, NodeId, Resp};
+use crate::fields::{Beat, DbId, NodeId, Resp};
 use crate::flits::{Flit, RequestFields, SnoopFields, Transaction, is_comment};
 use crate::opcodes::Opcode;
 use crate::words::first_word;
@@ -54,6 +54,14 @@ pub enum AnyFlit {
         transaction: Transaction,
         beat: Beat,
     },
+    /// A request of a kind that has no name here.
+    UnknownRequest(RequestFields),
+    /// A snoop that has none.
+    UnknownSnoop(SnoopFields),
+    /// An answer to a snoop that has none.
+    UnknownAnswer(Transaction),
+    /// Another response, or other data, and the DBID that it names, if any.
+    UnknownReply(Transaction, Option<DbId>),
 }
 
 impl AnyFlit {
@@ -69,6 +77,10 @@ impl AnyFlit {
             AnyFlit::CompUC { .. } => AnyOpcode::Profile(Opcode::Comp),
             AnyFlit::CompData { .. } => AnyOpcode::Profile(Opcode::CompData),
             AnyFlit::NonCopyBackWrData { .. } => AnyOpcode::NonCopyBackWrData,
+            AnyFlit::UnknownRequest(_) => AnyOpcode::UnknownRequest,
+            AnyFlit::UnknownSnoop(_) => AnyOpcode::UnknownSnoop,
+            AnyFlit::UnknownAnswer(_) => AnyOpcode::UnknownAnswer,
+            AnyFlit::UnknownReply(_, _) => AnyOpcode::UnknownReply,
         }
     }
 }

@@ -1,14 +1,14 @@
 //! The flit of any home or any cache that the columns of a line are.
 
 ghost use Rattle.std.specs.Prelude.{◌≡◌};
-ghost use Rattle.chi_trace.specs.AnyFlits.{any_comp_in, any_data_in, any_flit_by, any_opcode_of, any_seen_in, bare_comp_in, bare_data_in, other_request_in, other_snoop_flit, other_write_in, profile_in, whole_in};
+ghost use Rattle.chi_trace.specs.AnyFlits.{any_comp_in, any_data_in, any_flit_by, any_opcode_of, any_seen_in, bare_comp_in, bare_data_in, named_dbid_in, other_request_in, other_snoop_flit, other_write_in, profile_in, unknown_answer_in, unknown_reply_in, unknown_request_in, unknown_snoop_in, whole_in};
 ghost use Rattle.chi_trace.specs.Columns.{row_of_columns};
 ghost use Rattle.chi_trace.specs.Fields.{is_dash};
 
 use crate::any_flits::{AnyFlit, AnySeen};
 use crate::any_opcodes::{AnyOpcode, OtherKind, OtherSnoop, any_opcode_in};
 use crate::columns::{Column, Columns};
-use crate::fields::{Resp, is_dash};
+use crate::fields::{DbId, Resp, is_dash};
 use crate::flits::Flit;
 use crate::opcodes::{Opcode, channel_in};
 
@@ -126,6 +126,46 @@ impl Columns<'_> {
         }
     }
 
+    fn unknown_request(&self) -> Result<AnyFlit, Column>
+        ensures { result ≡ unknown_request_in (row_of_columns self.now) }
+    {
+        let fields = self.request_fields()?;
+        Ok(AnyFlit::UnknownRequest(fields))
+    }
+
+    fn unknown_snoop(&self) -> Result<AnyFlit, Column>
+        ensures { result ≡ unknown_snoop_in (row_of_columns self.now) }
+    {
+        let fields = self.snoop_fields()?;
+        Ok(AnyFlit::UnknownSnoop(fields))
+    }
+
+    fn unknown_answer(&self) -> Result<AnyFlit, Column>
+        ensures { result ≡ unknown_answer_in (row_of_columns self.now) }
+    {
+        let transaction = self.transaction()?;
+        Ok(AnyFlit::UnknownAnswer(transaction))
+    }
+
+    /// The DBID, where it isn't left out.
+    fn named_dbid(&self) -> Result<Option<DbId>, Column>
+        ensures { result ≡ named_dbid_in (row_of_columns self.now) }
+    {
+        if is_dash(self.dbid) {
+            return Ok(None);
+        }
+        let dbid = self.dbid()?;
+        Ok(Some(dbid))
+    }
+
+    fn unknown_reply(&self) -> Result<AnyFlit, Column>
+        ensures { result ≡ unknown_reply_in (row_of_columns self.now) }
+    {
+        let transaction = self.transaction()?;
+        let dbid = self.named_dbid()?;
+        Ok(AnyFlit::UnknownReply(transaction, dbid))
+    }
+
     /// The flit of the opcode.
     fn any_flit(&self, opcode: AnyOpcode) -> Result<AnyFlit, Column>
         ensures { result ≡ any_flit_by opcode (row_of_columns self.now) }
@@ -135,6 +175,10 @@ impl Columns<'_> {
             AnyOpcode::Request(kind) => self.other_request(kind),
             AnyOpcode::Snoop(snoop) => self.other_snoop(snoop),
             AnyOpcode::NonCopyBackWrData => self.other_write(),
+            AnyOpcode::UnknownRequest => self.unknown_request(),
+            AnyOpcode::UnknownSnoop => self.unknown_snoop(),
+            AnyOpcode::UnknownAnswer => self.unknown_answer(),
+            AnyOpcode::UnknownReply => self.unknown_reply(),
         }
     }
 

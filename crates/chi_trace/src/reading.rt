@@ -63,7 +63,7 @@ impl Columns<'_> {
         read_resp(self.resp).ok_or(Column::Resp)
     }
 
-    fn dbid(&self) -> Result<DbId, Column>
+    pub(crate) fn dbid(&self) -> Result<DbId, Column>
         ensures { result ≡ dbid_in (row_of_columns self.now) }
     {
         read_dbid(self.dbid).ok_or(Column::Dbid)
