@@ -101,21 +101,21 @@ flit_after w e change = record {
   options = w.options;
   requesters = with_requester (agent_in w e) e.sides.requester w.requesters;
   homes = with_home (agent_in w e) e.sides.home w.homes;
-  ids = ids_after change w.ids;
+  ids = ids_after e.number change w.ids;
   accounts = booked_all change.books w.accounts;
-  lines = put_line change.line (line_next (state_at w.lines change.line e.sides.home) (flit_of w e)) w.lines;
+  lines = put_line change.line (line_next (state_at w.lines e.number change.line e.sides.home) e.number (flit_of w e)) w.lines;
   counts = counts_after (mark_of w.lines change.line (flit_of w e) e.number) (is_none (w.lines change.line.0)) w.counts;
 }
 
-abbrev pub beat_after : Watched → Change → Watched
-beat_after w change = record w { ids = ids_after change w.ids }
+abbrev pub beat_after : Watched → LineEvent → Change → Watched
+beat_after w e change = record w { ids = ids_after e.number change w.ids }
 
 -- what follows a flit of a line, if its line takes it
 abbrev pub told_after : Watched → LineEvent → Change → Option Watched
-told_after w e change = if takes_line (state_at w.lines change.line e.sides.home) e.sides.home (flit_of w e) then Some (flit_after w e change) else None
+told_after w e change = if takes_line (state_at w.lines e.number change.line e.sides.home) e.sides.home (flit_of w e) then Some (flit_after w e change) else None
 
 abbrev pub line_after : Watched → LineEvent → Result Change IdReason → Option Watched
-line_after w e (Ok change) = if change.further then Some (beat_after w change) else told_after w e change
+line_after w e (Ok change) = if change.further then Some (beat_after w e change) else told_after w e change
 line_after w e (Err reason) = None
 
 abbrev pub booking_after : Watched → Booking → Watched
@@ -138,18 +138,18 @@ step w (events.Line e) = line_after w e (allowed w e)
 -- why it isn't
 abbrev pub IsFault : Watched → Event → WatchFault → Type 0
 IsFault w (events.Line e) (faults.Ids reason) = allowed w e ≡ Err reason
-IsFault w (events.Line e) (faults.Line reason) = (change : Change) × (allowed w e ≡ Ok change) × (is_line_reason (state_at w.lines change.line e.sides.home) e.sides.home (flit_of w e) reason ≡ true)
+IsFault w (events.Line e) (faults.Line reason) = (change : Change) × (allowed w e ≡ Ok change) × (is_line_reason (state_at w.lines e.number change.line e.sides.home) e.sides.home (flit_of w e) reason ≡ true)
 IsFault w (events.Granted sides pcrd) (faults.Ids reason) = granted w.options (table_in w) sides pcrd ≡ Err reason
 IsFault w (events.Returned sides pcrd) (faults.Ids reason) = returned (table_in w) sides pcrd ≡ Err reason
 IsFault w e fault = ⊥
 
 -- what a flit of an agent leaves, but of its line
-abbrev pub settled : Watched → Sides → Change → Option Agent → Option Aside → Bool → Watched
-settled w sides change agent mark fresh = record {
+abbrev pub settled : Watched → LineEvent → Change → Option Agent → Option Aside → Bool → Watched
+settled w e change agent mark fresh = record {
   options = w.options;
-  requesters = with_requester agent sides.requester w.requesters;
-  homes = with_home agent sides.home w.homes;
-  ids = ids_after change w.ids;
+  requesters = with_requester agent e.sides.requester w.requesters;
+  homes = with_home agent e.sides.home w.homes;
+  ids = ids_after e.number change w.ids;
   accounts = booked_all change.books w.accounts;
   lines = w.lines;
   counts = counts_after mark fresh w.counts;
@@ -158,7 +158,7 @@ settled w sides change agent mark fresh = record {
 -- a flit of a line that does this was taken, or its line refuses it and nothing has changed
 pub record IsLineRefused (old new : Watched) (e : LineEvent) (change : Change) (reason : LineReason) : Type 0 where
   pub refused : line_after old e (Ok change) ≡ None
-  pub holds : is_line_reason (state_at old.lines change.line e.sides.home) e.sides.home (flit_of old e) reason ≡ true
+  pub holds : is_line_reason (state_at old.lines e.number change.line e.sides.home) e.sides.home (flit_of old e) reason ≡ true
   pub kept : new ≡ old
 
 abbrev pub IsFlitWatched : {A : Type 0} → Watched → Watched → LineEvent → Change → Result A WatchStop → Type 0

@@ -1,7 +1,7 @@
 //! The ids that are open.
 
 ghost use Rattle.std.specs.Prelude.{◌≡◌};
-ghost use Rattle.chi_observe.specs.Ids.{id_of, numbers_of, opened_id};
+ghost use Rattle.chi_observe.specs.Ids.{id_of, numbers_of, opened_at, opened_id};
 
 use chi_flit::{Kind, Snoop};
 use chi_trace::{DbId, NodeId, PcrdType, TxnId};
@@ -57,6 +57,8 @@ pub struct OpenId {
     pub waits_for: Option<PcrdType>,
     /// Which words its data lacks, once a beat has come.
     pub lacks: Option<[bool; 8]>,
+    /// The number of the trace's line that opened it, counted from 1; 0 of one that isn't open yet.
+    pub since: usize,
 }
 
 /// A key as numbers, by which a table finds what it names.
@@ -110,5 +112,18 @@ pub(crate) fn opened_id(key: IdKey, line: CacheLine, purpose: Purpose) -> OpenId
         purpose,
         waits_for: None,
         lacks: None,
+        since: 0,
+    }
+}
+
+impl OpenId {
+    /// The same of a flit with this number.
+    pub(crate) fn opened_at(self, number: usize) -> OpenId
+        ensures { result ≡ opened_at number self }
+    {
+        OpenId {
+            since: number,
+            ..self
+        }
     }
 }

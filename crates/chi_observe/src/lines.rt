@@ -1,30 +1,34 @@
 //! The lines of memory that flits have touched.
 
-ghost use Rattle.std.specs.Prelude.{◌≡◌, IfErr, None, OnErr, OnOk, is_ok, nat_eq, true};
+ghost use Rattle.std.specs.Prelude.{◌≡◌, None, nat_eq};
 ghost use Rattle.std.specs.Map.{lookup};
-ghost use Rattle.chi_observe.specs.Lines.{IsTold, is_aside, is_line_reason, line_next, line_state, opened_line, state_at, takes_line, lines_in};
+ghost use Rattle.chi_observe.specs.declared.lines.LineStop.TheVariants as stops;
+ghost use Rattle.chi_observe.specs.Lines.{IsLineTold, IsTold, is_aside, line_state, opened_line, lines_in};
 
 use crate::ids::CacheLine;
+use crate::marks::Marks;
 use crate::reasons::LineReason;
 use chi_observer::{Flit, Observer};
 use chi_trace::NodeId;
 use indexmap::IndexMap;
-use std::alloc::Allocator;
+use std::alloc::{AllocError, Allocator};
 use std::hash::{BuildHasherDefault, FoldHasher};
 
 /// What flits have told of a line.
 /// Source: `docs/OBSERVER.md`, "A trace of many lines".
 #[derive(Drop)]
-pub(crate) struct LineSeen {
+pub(crate) struct LineSeen<A: Allocator> {
     /// The home of its first flit.
     pub home: NodeId,
     /// It isn't judged any more.
     pub aside: bool,
     pub observer: Observer,
+    /// By which lines of the trace.
+    pub marks: Marks<A>,
 }
 
 /// The lines that flits have touched, each under its number.
-pub(crate) type LineTable<A> = IndexMap<u64, LineSeen, BuildHasherDefault<FoldHasher>, A>;
+pub(crate) type LineTable<A> = IndexMap<u64, LineSeen<A>, BuildHasherDefault<FoldHasher>, A>;
 
 /// Why a line wasn't told of a flit.
 #[derive(Clone, Copy, Debug, PartialEq, Eq)]
@@ -35,25 +39,31 @@ pub(crate) enum LineStop {
     NoMemory,
 }
 
-impl LineSeen {
-    /// A line that no flit has touched.
-    fn new(home: NodeId) -> LineSeen
-        ensures { line_state result ≡ opened_line home }
+impl From<AllocError> for LineStop {
+    ghost from_gives = { λ _ stop. stop ≡ stops.NoMemory };
+
+    fn from(_lack: AllocError) -> LineStop {
+        LineStop::NoMemory
+    }
+}
+
+impl<A: Allocator> LineSeen<A> {
+    /// A line that no flit has touched before the one with this number.
+    fn new(alloc: A, home: NodeId, number: usize) -> LineSeen<A>
+        ensures { line_state result ≡ opened_line number home }
     {
         LineSeen {
             home,
             aside: false,
             observer: Observer::new(),
+            marks: Marks::new(alloc, number),
         }
     }
 
-    /// Takes a flit of this home; one that isn't judged sets the line aside.
-    fn take(&mut self, home: NodeId, flit: Option<Flit>) -> Result<(), LineReason>
-        ensures taken { is_ok result ≡ takes_line (line_state self.old) home flit }
-        ensures after { OnOk result (line_state self.new ≡ line_next (line_state self.old) flit) }
-        ensures kept { OnErr result (self.new ≡ self.old) }
-        ensures reason { IfErr result
-            (λ reason. is_line_reason (line_state self.old) home flit reason ≡ true) }
+    /// Takes a flit of this home, and with this number; one that isn't judged sets the line aside. Where it isn't taken
+    /// nothing changes.
+    fn take(&mut self, home: NodeId, flit: Option<Flit>, number: usize) -> Result<(), LineStop>
+        ensures { IsLineTold (line_state self.old) (line_state self.new) number home flit result }
     {
         let Some(flit) = flit else {
             self.aside = true;
@@ -63,11 +73,11 @@ impl LineSeen {
             return Ok(());
         }
         if self.home.0 != home.0 {
-            return Err(LineReason::OtherHome(self.home));
+            return Err(LineStop::Refused(LineReason::OtherHome(self.home)));
         }
         match self.observer.take(flit) {
-            Ok(()) => Ok(()),
-            Err(reason) => Err(LineReason::Rule(reason)),
+            Ok(()) => Ok(self.marks.mark(flit, &self.observer.home, number)?),
+            Err(reason) => Err(LineStop::Refused(LineReason::Rule(reason))),
         }
     }
 }
@@ -82,38 +92,40 @@ pub(crate) fn is_aside<A: Allocator>(lines: &LineTable<A>, line: CacheLine) -> b
     }
 }
 
-/// Tells the line of a flit of this home, and answers whether it is the line's first. Where the line doesn't take it nothing
+/// Tells the line of a flit of this home, and with this number, and answers whether it is the line's first. Where the line doesn't take it nothing
 /// changes.
-pub(crate) fn tell<A: Allocator>(
+pub(crate) fn tell<A: Allocator + Copy>(
     lines: &mut LineTable<A>,
     line: CacheLine,
     home: NodeId,
     flit: Option<Flit>,
+    number: usize,
 ) -> Result<bool, LineStop>
-    ensures { IsTold (lines_in lines.old.entries) (lines_in lines.new.entries) line home flit result }
+    ensures { IsTold (lines_in lines.old.entries) (lines_in lines.new.entries) number line home flit result }
 {
     match lines.get_mut(&line.0) {
-        Some(seen) => match seen.take(home, flit) {
+        Some(seen) => match seen.take(home, flit, number) {
             Ok(()) => Ok(false),
-            Err(reason) => Err(LineStop::Refused(reason)),
+            Err(stop) => Err(stop),
         },
-        None => tell_new(lines, line, home, flit),
+        None => tell_new(lines, line, home, flit, number),
     }
 }
 
 /// The same of a line that no flit has touched.
-fn tell_new<A: Allocator>(
+fn tell_new<A: Allocator + Copy>(
     lines: &mut LineTable<A>,
     line: CacheLine,
     home: NodeId,
     flit: Option<Flit>,
+    number: usize,
 ) -> Result<bool, LineStop>
     requires { lookup (nat_eq line.0) lines.old.entries ≡ None }
-    ensures { IsTold (lines_in lines.old.entries) (lines_in lines.new.entries) line home flit result }
+    ensures { IsTold (lines_in lines.old.entries) (lines_in lines.new.entries) number line home flit result }
 {
-    let mut seen = LineSeen::new(home);
-    if let Err(reason) = seen.take(home, flit) {
-        return Err(LineStop::Refused(reason));
+    let mut seen = LineSeen::new(*lines.allocator(), home, number);
+    if let Err(stop) = seen.take(home, flit, number) {
+        return Err(stop);
     }
     match lines.insert(line.0, seen) {
         Ok(_) => Ok(true),

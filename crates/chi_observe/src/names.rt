@@ -1,9 +1,12 @@
 //! How nodes, lines and flits are written. No clause says these texts: they are tested.
 
+ghost use Rattle.std.specs.Prelude.{IfOk, string_bytes};
+ghost use Rattle.chi_observe.specs.Reports.{BeginsWith};
+
 use crate::ids::{CacheLine, IdKey};
-use chi_flit::Data;
 use chi_observer::{Act, Answer, Grant, Told};
 use chi_trace::{Flit, NodeId, Seen};
+use std::alloc::{AllocError, Allocator};
 use std::fmt;
 
 /// A node, in hexadecimal as in a trace.
@@ -17,10 +20,6 @@ pub(crate) struct LineName(pub CacheLine);
 /// A flit: its opcode and its RESP, and that it is sent again.
 #[derive(Clone, Copy)]
 pub(crate) struct SeenName<'a>(pub &'a Seen);
-
-/// The words of a line.
-#[derive(Clone, Copy)]
-pub(crate) struct WordsName(pub Data);
 
 /// What a copy was told to be.
 #[derive(Clone, Copy)]
@@ -61,14 +60,6 @@ impl fmt::Display for SeenName<'_> {
             Flit::CopyBackWrData { resp, .. } => write!(f, "_{resp}"),
             _ => Ok(()),
         }
-    }
-}
-
-impl fmt::Display for WordsName {
-    fn fmt<W: fmt::Write>(&self, f: &mut fmt::Formatter<W>) -> fmt::Result {
-        let [w0, w1, w2, w3, w4, w5, w6, w7] = self.0;
-        write!(f, "{w0:x},{w1:x},{w2:x},{w3:x},")?;
-        write!(f, "{w4:x},{w5:x},{w6:x},{w7:x}")
     }
 }
 
@@ -125,6 +116,15 @@ pub(crate) fn requester_of(seen: &Seen) -> (NodeId, &'static str) {
         Flit::CompData { transaction, .. } => (transaction.target, "to"),
         _ => (seen.source, "of"),
     }
+}
+
+/// The text with this behind it.
+pub(crate) fn joined<A: Allocator>(front: String<A>, rest: &str) -> Result<String<A>, AllocError>
+    ensures { IfOk result (λ text. BeginsWith (string_bytes front) (string_bytes text)) }
+{
+    let mut text = front;
+    text.push_str(rest)?;
+    Ok(text)
 }
 
 /// The flits of a cache, by their names in a trace.
