@@ -1,6 +1,6 @@
 -- The ids that are open, each under its key: its sort, its home, its requester and its number (docs/OBSERVER.md, "Ids and
 -- credits").
-use Rattle.std.specs.Prelude.{◌==◌, ◌&&◌, Bool, true, false, List, Option, Some, None}
+use Rattle.std.specs.Prelude.{ℕ, ◌==◌, ◌&&◌, Bool, true, false, List, Option, Some, None}
 use Rattle.std.specs.Map.{lookup}
 use Rattle.indexmap.specs.IndexMap.{insert_entry, swap_remove_entry}
 use Rattle.chi_observe.specs.declared.ids.CacheLine.{CacheLine}
@@ -45,12 +45,16 @@ is_kept_for (purposes.Snoop snoop) = false
 
 -- an id that is opened
 abbrev pub opened_id : IdKey → CacheLine → Purpose → OpenId
-opened_id key line purpose = record { key = key; line = line; purpose = purpose; waits_for = None; lacks = None; begun = None }
+opened_id key line purpose = record { key = key; line = line; purpose = purpose; waits_for = None; lacks = None; begun = None; since = 0 }
 
 -- the ids without that of a key, if one is free; the last takes its place
 abbrev pub without : Option IdKey → List (KeyNumbers × OpenId) → List (KeyNumbers × OpenId)
 without None ids = ids
 without (Some key) ids = swap_remove_entry (has_numbers_of key) ids
+
+-- the same of a flit with this number
+abbrev pub opened_at : ℕ → OpenId → OpenId
+opened_at number id = record id { since = number }
 
 -- the ids with another one under its key, if there is one
 abbrev pub with_id : Option OpenId → List (KeyNumbers × OpenId) → List (KeyNumbers × OpenId)

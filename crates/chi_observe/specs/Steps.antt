@@ -1,5 +1,5 @@
 -- What each flit does to ids and credits, or why they don't allow it (docs/OBSERVER.md, "Ids and credits").
-use Rattle.std.specs.Prelude.{ℕ, ◌==◌, ◌&&◌, ◌||◌, Bool, true, false, not, List, [], ◌∷◌, Option, Some, None, Result, Ok, Err, if◌then◌else◌, ok_or, replicate, unwrap_or}
+use Rattle.std.specs.Prelude.{ℕ, ◌==◌, ◌&&◌, ◌||◌, Bool, true, false, not, List, [], ◌∷◌, Option, Some, None, Result, Ok, Err, if◌then◌else◌, ok_or, option_map, replicate, unwrap_or}
 use Rattle.std.specs.List.{count_by, list_any, slice_index_or}
 use Rattle.std.specs.Map.{values_of}
 use Rattle.chi_observer.specs.declared.kinds.Kind.{Kind}
@@ -31,9 +31,9 @@ use Rattle.chi_observe.specs.declared.steps.IdStep.TheVariants.{Attempt, Again, 
 use Rattle.chi_observe.specs.declared.steps.IdStep.TheVariants as steps
 use Rattle.chi_observe.specs.declared.steps.Tables.{Tables}
 use Rattle.chi_observe.specs.declared.steps.WatchOptions.{WatchOptions}
-use Rattle.chi_observe.specs.Credits.{account_of, booked_all, may_grant, unused_of, wanted_of}
+use Rattle.chi_observe.specs.Credits.{account_of, may_grant, unused_of, wanted_of}
 use Rattle.chi_observe.specs.Events.{with_words, words_of}
-use Rattle.chi_observe.specs.Ids.{id_of, is_kept_for, opened_id, with_id, without}
+use Rattle.chi_observe.specs.Ids.{id_of, is_kept_for, opened_at, opened_id, with_id, without}
 use Rattle.chi_observe.specs.Reasons.{◌>>=◌}
 
 -- what is open: the ids and the accounts
@@ -268,9 +268,6 @@ change_of options table sides (AnswerData txn there) at tells = beat_of table (k
 change_of options table sides (Acknowledge dbid) at tells = acknowledged table (keys.Buffer sides dbid) at
 change_of options table sides (WriteData dbid there) at tells = beat_of table (keys.Buffer sides dbid) there at tells
 
--- the ids behind it
-abbrev pub ids_after : Change → List (KeyNumbers × OpenId) → List (KeyNumbers × OpenId)
-ids_after change ids = with_id change.opens (with_id change.keeps (without change.frees ids))
-
-abbrev pub table_after : Change → Table → Table
-table_after change table = record { ids = ids_after change table.ids; accounts = booked_all change.books table.accounts }
+-- the ids behind it, where it has this number
+abbrev pub ids_after : ℕ → Change → List (KeyNumbers × OpenId) → List (KeyNumbers × OpenId)
+ids_after number change ids = with_id (option_map (opened_at number) change.opens) (with_id change.keeps (without change.frees ids))
