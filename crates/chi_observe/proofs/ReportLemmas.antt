@@ -8,7 +8,7 @@ use Rattle.chi_observe.specs.declared.reports.ObserveOutcome.{ObserveOutcome}
 use Rattle.chi_observe.specs.declared.steps.WatchOptions.{WatchOptions}
 use Rattle.chi_observe.specs.declared.stream.TextStop.{TextStop}
 use Rattle.chi_observe.specs.declared.stream.TextStop.TheVariants as texts
-use Rattle.chi_observe.specs.Reports.{AtFailedWrite, IsObserved, IsOutcomeOf, IsReportFront, IsReportText, IsReportWritten, IsUnreported, is_malformed, outcome_of}
+use Rattle.chi_observe.specs.Reports.{AtFailedWrite, IsObserved, IsOutcomeOf, IsReportFront, IsReportText, IsUnreported, is_malformed, outcome_of}
 use Rattle.chi_observe.specs.Streams.{IsTraceWatched, trace_after}
 use Rattle.chi_observe.specs.Watched.{Watched, nothing_watched}
 

@@ -1,5 +1,5 @@
 -- Lines taken one after the other, and pieces of a trace.
-use Rattle.std.proofs.Common.{◌≡◌, ℕ, ◌+◌, ◌<◌, ◌==◌, Bool, true, false, cond, List, [], ◌∷◌, ◌++◌, Option, Some, None, Result, Ok, Err, length, refl, sym, ap, subst, ◌∙◌, append_assoc, append-nil}
+use Rattle.std.proofs.Common.{◌≡◌, ℕ, ◌+◌, ◌==◌, Bool, true, false, cond, List, [], ◌∷◌, ◌++◌, Option, Some, None, Result, Ok, Err, length, refl, sym, ap, subst, ◌∙◌, append_assoc, append-nil}
 use Rattle.std.specs.Prelude.{IfSome}
 use Rattle.std.specs.Io.KnownBytes.{Consumes, IsAtEnd}
 use Rattle.chi_script.specs.Files.{lines_of}
@@ -8,7 +8,7 @@ use Rattle.chi_trace.specs.declared.faults.TraceFault.TheVariants.{MissingNewlin
 use Rattle.chi_observe.specs.declared.stream.TextStop.{TextStop}
 use Rattle.chi_observe.specs.declared.stream.TextStop.TheVariants as texts
 use Rattle.chi_observe.specs.declared.stream.TraceStop.{TraceStop}
-use Rattle.chi_observe.specs.declared.stream.TraceStop.TheVariants.{Malformed, Untaken}
+use Rattle.chi_observe.specs.declared.stream.TraceStop.TheVariants.{Malformed}
 use Rattle.chi_observe.specs.Streams.{◌>>=◌, GoesOn, IsStopAt, IsTraceWatched, end_of, text_after, trace_after}
 use Rattle.chi_observe.specs.Watched.{Watched}
 use Rattle.chi_observe.proofs.SplitLemmas.{first_of_more}

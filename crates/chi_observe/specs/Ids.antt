@@ -65,12 +65,16 @@ is_alike key other = alike_numbers (numbers_of key) (numbers_of other)
 
 -- an id that is opened
 abbrev pub opened_id : IdKey → CacheLine → Purpose → OpenId
-opened_id key line purpose = record { key = key; line = line; purpose = purpose; waits_for = None; lacks = None; begun = None }
+opened_id key line purpose = record { key = key; line = line; purpose = purpose; waits_for = None; lacks = None; begun = None; since = 0 }
 
 -- the ids without that of a key, if one is free; the last takes its place
 abbrev pub without : Option IdKey → List (KeyNumbers × OpenId) → List (KeyNumbers × OpenId)
 without None ids = ids
 without (Some key) ids = swap_remove_entry (has_numbers_of key) ids
+
+-- the same of a flit with this number
+abbrev pub opened_at : ℕ → OpenId → OpenId
+opened_at number id = record id { since = number }
 
 -- the ids with another one under its key, if there is one
 abbrev pub with_id : Option OpenId → List (KeyNumbers × OpenId) → List (KeyNumbers × OpenId)

@@ -2,6 +2,7 @@ pub mod Reasons
 pub mod Ids
 pub mod Credits
 pub mod Steps
+pub mod Marks
 pub mod Lines
 pub mod Events
 pub mod Nodes

@@ -1,13 +1,11 @@
 -- What is open behind the flits of a trace (docs/OBSERVER.md, "What is printed").
-use Rattle.std.specs.Prelude.{ℕ, ◌&&◌, ◌||◌, Bool, false, not, nat_lt, Option, Some, None}
+use Rattle.std.specs.Prelude.{◌&&◌, ◌||◌, Bool, false, not, nat_lt, Option, Some}
 use Rattle.std.specs.List.{list_any}
 use Rattle.std.specs.Map.{values_of}
 use Rattle.chi_flit.specs.declared.numbers.Agent.{Agent}
 use Rattle.chi_observe.specs.declared.credits.Account.{Account}
-use Rattle.chi_observe.specs.declared.ids.CacheLine.{CacheLine}
 use Rattle.chi_observe.specs.declared.ids.IdKey.{IdKey}
 use Rattle.chi_observe.specs.declared.ids.IdKey.TheVariants.{Retried}
-use Rattle.chi_observe.specs.declared.ids.OpenId.{OpenId}
 use Rattle.chi_observe.specs.Credits.{owed_of, unused_of}
 use Rattle.chi_observe.specs.Lines.{LineState, is_aside}
 use Rattle.chi_observe.specs.Nodes.{agent_of}

@@ -1,5 +1,5 @@
 -- What each flit does to ids and credits, or why they don't allow it (docs/OBSERVER.md, "Ids and credits").
-use Rattle.std.specs.Prelude.{ℕ, ◌==◌, ◌&&◌, ◌||◌, Bool, true, false, not, List, [], ◌∷◌, Option, Some, None, Result, Ok, Err, if◌then◌else◌, is_none, ok_or, replicate, unwrap_or}
+use Rattle.std.specs.Prelude.{ℕ, ◌==◌, ◌&&◌, ◌||◌, Bool, true, false, not, List, [], ◌∷◌, Option, Some, None, Result, Ok, Err, if◌then◌else◌, is_none, ok_or, option_map, replicate, unwrap_or}
 use Rattle.std.specs.List.{count_by, find, list_any, slice_index_or}
 use Rattle.std.specs.Map.{values_of}
 use Rattle.chi_observer.specs.declared.kinds.Kind.{Kind}
@@ -33,7 +33,7 @@ use Rattle.chi_observe.specs.declared.steps.Tables.{Tables}
 use Rattle.chi_observe.specs.declared.steps.WatchOptions.{WatchOptions}
 use Rattle.chi_observe.specs.Credits.{account_of, may_grant, unused_of, wanted_of}
 use Rattle.chi_observe.specs.Events.{with_words, words_of}
-use Rattle.chi_observe.specs.Ids.{id_of, is_alike, is_kept_for, is_unknown, sides_of, opened_id, with_id, without}
+use Rattle.chi_observe.specs.Ids.{id_of, is_alike, is_kept_for, is_unknown, sides_of, opened_at, opened_id, with_id, without}
 use Rattle.chi_observe.specs.Lines.{is_aside, lines_in}
 use Rattle.chi_observe.specs.Reasons.{◌>>=◌}
 
@@ -381,6 +381,6 @@ change_of options table sides (UnknownSnoop txn line) at tells = unknown_snoop t
 change_of options table sides (UnknownAnswer txn) at tells = unknown_answer table (keys.Snoop sides txn) at
 change_of options table sides (UnknownReply txn dbid) at tells = unknown_reply table sides txn dbid at
 
--- the ids behind it
-abbrev pub ids_after : Change → List (KeyNumbers × OpenId) → List (KeyNumbers × OpenId)
-ids_after change ids = with_id change.opens (with_id change.keeps (without change.frees ids))
+-- the ids behind it, where it has this number
+abbrev pub ids_after : ℕ → Change → List (KeyNumbers × OpenId) → List (KeyNumbers × OpenId)
+ids_after number change ids = with_id (option_map (opened_at number) change.opens) (with_id change.keeps (without change.frees ids))

@@ -1,7 +1,7 @@
 //! The ids that are open.
 
 ghost use Rattle.std.specs.Prelude.{◌≡◌};
-ghost use Rattle.chi_observe.specs.Ids.{id_of, is_alike, is_followed, is_kept_for, is_unknown, numbers_of, opened_id, sides_of};
+ghost use Rattle.chi_observe.specs.Ids.{id_of, is_alike, is_followed, is_kept_for, is_unknown, numbers_of, opened_at, opened_id, sides_of};
 
 use crate::events::Tells;
 use chi_observer::{Kind, Snoop};
@@ -126,6 +126,8 @@ pub struct OpenId {
     pub lacks: Option<[bool; 8]>,
     /// What its data tell, with the words that have come, once a beat has.
     pub begun: Option<Tells>,
+    /// The number of the trace's line that opened it, counted from 1; 0 of one that isn't open yet.
+    pub since: usize,
 }
 
 /// A key as numbers, by which a table finds what it names.
@@ -180,5 +182,18 @@ pub(crate) fn opened_id(key: IdKey, line: CacheLine, purpose: Purpose) -> OpenId
         waits_for: None,
         lacks: None,
         begun: None,
+        since: 0,
+    }
+}
+
+impl OpenId {
+    /// The same of a flit with this number.
+    pub(crate) fn opened_at(self, number: usize) -> OpenId
+        ensures { result ≡ opened_at number self }
+    {
+        OpenId {
+            since: number,
+            ..self
+        }
     }
 }

@@ -7,6 +7,8 @@ mod credits;
 mod events;
 mod ids;
 mod lines;
+mod malformed;
+mod marks;
 mod names;
 mod nodes;
 mod observations;

@@ -1,21 +1,23 @@
 //! The lines of memory that flits have touched.
 
-ghost use Rattle.std.specs.Prelude.{◌≡◌, IfErr, None, OnErr, OnOk, is_ok, nat_eq, true};
+ghost use Rattle.std.specs.Prelude.{◌≡◌, None, nat_eq};
 ghost use Rattle.std.specs.Map.{lookup};
-ghost use Rattle.chi_observe.specs.Lines.{IsTold, begun_next, ended_next, flit_next, is_aside, is_flit_reason, is_line_reason, is_put_aside, line_next, line_state, lines_in, opened_line, put_aside, state_at, takes_flit, takes_line};
+ghost use Rattle.chi_observe.specs.declared.lines.LineStop.TheVariants as stops;
+ghost use Rattle.chi_observe.specs.Lines.{IsEndTold, IsFlitTold, IsLineTold, IsTold, begun_next, is_aside, is_put_aside, line_state, lines_in, opened_line, put_aside};
 
 use crate::ids::CacheLine;
+use crate::marks::Marks;
 use crate::reasons::LineReason;
 use chi_observer::{Flit, Observer};
 use chi_trace::NodeId;
 use indexmap::IndexMap;
-use std::alloc::Allocator;
+use std::alloc::{AllocError, Allocator};
 use std::hash::{BuildHasherDefault, FoldHasher};
 
 /// What flits have told of a line.
 /// Source: `docs/OBSERVER.md`, "A trace of many lines".
 #[derive(Drop)]
-pub(crate) struct LineSeen {
+pub(crate) struct LineSeen<A: Allocator> {
     /// The home of its first flit.
     pub home: NodeId,
     /// It isn't judged any more.
@@ -23,6 +25,8 @@ pub(crate) struct LineSeen {
     /// Data of it lack words: its next flit is their last beat, or it isn't judged any more.
     pub held: bool,
     pub observer: Observer,
+    /// By which lines of the trace.
+    pub marks: Marks<A>,
 }
 
 /// What a line is told of.
@@ -37,7 +41,7 @@ pub(crate) enum LineNews {
 }
 
 /// The lines that flits have touched, each under its number.
-pub(crate) type LineTable<A> = IndexMap<u64, LineSeen, BuildHasherDefault<FoldHasher>, A>;
+pub(crate) type LineTable<A> = IndexMap<u64, LineSeen<A>, BuildHasherDefault<FoldHasher>, A>;
 
 /// Why a line wasn't told of a flit.
 #[derive(Clone, Copy, Debug, PartialEq, Eq)]
@@ -48,16 +52,25 @@ pub(crate) enum LineStop {
     NoMemory,
 }
 
-impl LineSeen {
-    /// A line that no flit has touched.
-    fn new(home: NodeId) -> LineSeen
-        ensures { line_state result ≡ opened_line home }
+impl From<AllocError> for LineStop {
+    ghost from_gives = { λ _ stop. stop ≡ stops.NoMemory };
+
+    fn from(_lack: AllocError) -> LineStop {
+        LineStop::NoMemory
+    }
+}
+
+impl<A: Allocator> LineSeen<A> {
+    /// A line that no flit has touched before the one with this number.
+    fn new(alloc: A, home: NodeId, number: usize) -> LineSeen<A>
+        ensures { line_state result ≡ opened_line number home }
     {
         LineSeen {
             home,
             aside: false,
             held: false,
             observer: Observer::new(),
+            marks: Marks::new(alloc, number),
         }
     }
 
@@ -68,13 +81,10 @@ impl LineSeen {
         self.aside = true;
     }
 
-    /// Takes a flit of this home; one that isn't judged sets the line aside.
-    fn take_flit(&mut self, home: NodeId, flit: Option<Flit>) -> Result<(), LineReason>
-        ensures taken { is_ok result ≡ takes_flit (line_state self.old) home flit }
-        ensures after { OnOk result (line_state self.new ≡ flit_next (line_state self.old) flit) }
-        ensures kept { OnErr result (self.new ≡ self.old) }
-        ensures reason { IfErr result
-            (λ reason. is_flit_reason (line_state self.old) home flit reason ≡ true) }
+    /// Takes a flit of this home, and with this number; one that isn't judged sets the line aside. Where it isn't taken
+    /// nothing changes.
+    fn take_flit(&mut self, home: NodeId, flit: Option<Flit>, number: usize) -> Result<(), LineStop>
+        ensures { IsFlitTold (line_state self.old) (line_state self.new) number home flit result }
     {
         let Some(flit) = flit else {
             self.set_aside();
@@ -84,11 +94,11 @@ impl LineSeen {
             return Ok(());
         }
         if self.home.0 != home.0 {
-            return Err(LineReason::OtherHome(self.home));
+            return Err(LineStop::Refused(LineReason::OtherHome(self.home)));
         }
         match self.observer.take(flit) {
-            Ok(()) => Ok(()),
-            Err(reason) => Err(LineReason::Rule(reason)),
+            Ok(()) => Ok(self.marks.mark(flit, &self.observer.home, number)?),
+            Err(reason) => Err(LineStop::Refused(LineReason::Rule(reason))),
         }
     }
 
@@ -103,26 +113,18 @@ impl LineSeen {
     }
 
     /// Takes the last beat of data.
-    fn end(&mut self, home: NodeId, flit: Option<Flit>) -> Result<(), LineReason>
-        ensures taken { is_ok result ≡ takes_flit (line_state self.old) home flit }
-        ensures after { OnOk result (line_state self.new ≡ ended_next (line_state self.old) flit) }
-        ensures kept { OnErr result (self.new ≡ self.old) }
-        ensures reason { IfErr result
-            (λ reason. is_flit_reason (line_state self.old) home flit reason ≡ true) }
+    fn end(&mut self, home: NodeId, flit: Option<Flit>, number: usize) -> Result<(), LineStop>
+        ensures { IsEndTold (line_state self.old) (line_state self.new) number home flit result }
     {
-        self.take_flit(home, flit)?;
+        self.take_flit(home, flit, number)?;
         self.held = false;
         Ok(())
     }
 
-    /// Takes what a line is told of, by this home.
+    /// Takes what a line is told of, by this home and with this number. Where it isn't taken nothing changes.
     #[tactic(auto, unfolding(crate::specs::Lines::takes_line, crate::specs::Lines::line_next, crate::specs::Lines::is_line_reason))]
-    fn take(&mut self, home: NodeId, news: LineNews) -> Result<(), LineReason>
-        ensures taken { is_ok result ≡ takes_line (line_state self.old) home news }
-        ensures after { OnOk result (line_state self.new ≡ line_next (line_state self.old) news) }
-        ensures kept { OnErr result (self.new ≡ self.old) }
-        ensures reason { IfErr result
-            (λ reason. is_line_reason (line_state self.old) home news reason ≡ true) }
+    fn take(&mut self, home: NodeId, news: LineNews, number: usize) -> Result<(), LineStop>
+        ensures { IsLineTold (line_state self.old) (line_state self.new) number home news result }
     {
         match news {
             LineNews::Flit(flit) => {
@@ -130,13 +132,13 @@ impl LineSeen {
                     self.set_aside();
                     return Ok(());
                 }
-                self.take_flit(home, flit)
+                self.take_flit(home, flit, number)
             }
             LineNews::Begun => {
                 self.hold();
                 Ok(())
             }
-            LineNews::Ended(flit) => self.end(home, flit),
+            LineNews::Ended(flit) => self.end(home, flit, number),
         }
     }
 }
@@ -170,38 +172,40 @@ pub(crate) fn is_put_aside<A: Allocator>(
     }
 }
 
-/// Tells the line of this by this home, and answers whether it is the line's first flit. Where the line doesn't take it
-/// nothing changes.
-pub(crate) fn tell<A: Allocator>(
+/// Tells the line of this by this home, and with this number, and answers whether it is the line's first flit. Where the
+/// line doesn't take it nothing changes.
+pub(crate) fn tell<A: Allocator + Copy>(
     lines: &mut LineTable<A>,
     line: CacheLine,
     home: NodeId,
     news: LineNews,
+    number: usize,
 ) -> Result<bool, LineStop>
-    ensures { IsTold (lines_in lines.old.entries) (lines_in lines.new.entries) line home news result }
+    ensures { IsTold (lines_in lines.old.entries) (lines_in lines.new.entries) number line home news result }
 {
     match lines.get_mut(&line.0) {
-        Some(seen) => match seen.take(home, news) {
+        Some(seen) => match seen.take(home, news, number) {
             Ok(()) => Ok(false),
-            Err(reason) => Err(LineStop::Refused(reason)),
+            Err(stop) => Err(stop),
         },
-        None => tell_new(lines, line, home, news),
+        None => tell_new(lines, line, home, news, number),
     }
 }
 
 /// The same of a line that no flit has touched.
-fn tell_new<A: Allocator>(
+fn tell_new<A: Allocator + Copy>(
     lines: &mut LineTable<A>,
     line: CacheLine,
     home: NodeId,
     news: LineNews,
+    number: usize,
 ) -> Result<bool, LineStop>
     requires { lookup (nat_eq line.0) lines.old.entries ≡ None }
-    ensures { IsTold (lines_in lines.old.entries) (lines_in lines.new.entries) line home news result }
+    ensures { IsTold (lines_in lines.old.entries) (lines_in lines.new.entries) number line home news result }
 {
-    let mut seen = LineSeen::new(home);
-    if let Err(reason) = seen.take(home, news) {
-        return Err(LineStop::Refused(reason));
+    let mut seen = LineSeen::new(*lines.allocator(), home, number);
+    if let Err(stop) = seen.take(home, news, number) {
+        return Err(stop);
     }
     match lines.insert(line.0, seen) {
         Ok(_) => Ok(true),

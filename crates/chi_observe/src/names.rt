@@ -1,9 +1,13 @@
 //! How nodes, lines and flits are written. No clause says these texts: they are tested.
 
+ghost use Rattle.std.specs.Prelude.{IfOk, string_bytes};
+ghost use Rattle.chi_observe.specs.Reports.{BeginsWith};
+
 use crate::ids::{CacheLine, IdKey};
-use chi_flit::{Data, State};
+use chi_flit::State;
 use chi_observer::{Act, Answer, Grant, Kind, Snoop, Told};
 use chi_trace::{AnyFlit, AnySeen, Flit, NodeId, Resp};
+use std::alloc::{AllocError, Allocator};
 use std::fmt;
 
 /// A node, in hexadecimal as in a trace.
@@ -25,10 +29,6 @@ pub(crate) struct KindName(pub Kind);
 /// A snoop.
 #[derive(Clone, Copy)]
 pub(crate) struct SnoopName(pub Snoop);
-
-/// The words of a line.
-#[derive(Clone, Copy)]
-pub(crate) struct WordsName(pub Data);
 
 /// What a copy was told to be.
 #[derive(Clone, Copy)]
@@ -137,14 +137,6 @@ impl fmt::Display for SnoopName {
     }
 }
 
-impl fmt::Display for WordsName {
-    fn fmt<W: fmt::Write>(&self, f: &mut fmt::Formatter<W>) -> fmt::Result {
-        let [w0, w1, w2, w3, w4, w5, w6, w7] = self.0;
-        write!(f, "{w0:x},{w1:x},{w2:x},{w3:x},")?;
-        write!(f, "{w4:x},{w5:x},{w6:x},{w7:x}")
-    }
-}
-
 impl fmt::Display for ToldName {
     fn fmt<W: fmt::Write>(&self, f: &mut fmt::Formatter<W>) -> fmt::Result {
         f.write_str(match self.0 {
@@ -211,6 +203,15 @@ pub(crate) fn requester_of(seen: &AnySeen) -> (NodeId, &'static str) {
         Some(node) => (node, "to"),
         None => (seen.source, "of"),
     }
+}
+
+/// The text with this behind it.
+pub(crate) fn joined<A: Allocator>(front: String<A>, rest: &str) -> Result<String<A>, AllocError>
+    ensures { IfOk result (λ text. BeginsWith (string_bytes front) (string_bytes text)) }
+{
+    let mut text = front;
+    text.push_str(rest)?;
+    Ok(text)
 }
 
 /// The flits of a cache, by their names in a trace.

@@ -26,8 +26,9 @@ fn report_on_input<A: Allocator + Copy, I: Input>(
     ensures err { IfErr result (CountsFault (I.failures input.old) (I.failures input.new)) }
 {
     let mut watch = Watch::new(alloc, options);
-    let stop = watch_input(alloc, input, &mut watch)?;
-    match watch.report(alloc, complete, &stop) {
+    let mut wrong = Vec::new(alloc);
+    let stop = watch_input(alloc, input, &mut watch, &mut wrong)?;
+    match watch.report(alloc, complete, &stop, &wrong) {
         Ok(report) => Ok(report),
         Err(_) => Err(Fault::NoMemory),
     }

@@ -13,12 +13,13 @@ use crate::names::{KindName, LineName, NodeName, SnoopName};
 use crate::nodes::agent_of;
 use crate::watch::Watch;
 use chi_flit::Agent;
+use chi_trace::NodeId;
 use std::alloc::{AllocError, Allocator};
 use std::fmt;
 use std::fmt::Write;
 
 /// Whether the agent's request at the line that was retried is surely cancelled.
-fn is_cancelled_at(seen: &LineSeen, agent: Agent) -> bool
+fn is_cancelled_at<A: Allocator>(seen: &LineSeen<A>, agent: Agent) -> bool
     ensures { result ≡ is_cancelled_at (line_state seen.now) agent }
 {
     if seen.aside {
@@ -98,15 +99,19 @@ struct AccountText(Account);
 #[derive(Clone, Copy)]
 struct PurposeName(Purpose);
 
+/// An id of a known line, and since when it is open.
+#[derive(Clone, Copy)]
+pub(crate) struct SinceText(pub OpenId);
+
 /// The requester of an id.
-fn requester_of(key: IdKey) -> NodeName {
+pub(crate) fn requester_in(key: IdKey) -> NodeId {
     let sides: Sides = match key {
         IdKey::Request(sides, _) => sides,
         IdKey::Buffer(sides, _) => sides,
         IdKey::Snoop(sides, _) => sides,
         IdKey::Retried(sides, _) => sides,
     };
-    NodeName(sides.requester)
+    sides.requester
 }
 
 /// What an open id waits for.
@@ -138,9 +143,26 @@ impl fmt::Display for PurposeName {
 
 impl fmt::Display for OpenText {
     fn fmt<W: fmt::Write>(&self, f: &mut fmt::Formatter<W>) -> fmt::Result {
-        let (purpose, node) = (PurposeName(self.0.purpose), requester_of(self.0.key));
-        let (line, lack) = (LineName(self.0.line), lack_of(&self.0));
-        write!(f, "{purpose} node {node} at {line}, {lack}")
+        let (purpose, node) = (
+            PurposeName(self.0.purpose),
+            NodeName(requester_in(self.0.key)),
+        );
+        let (line, lack, number) = (LineName(self.0.line), lack_of(&self.0), self.0.since);
+        write!(
+            f,
+            "{purpose} node {node} at {line}, since line {number} {lack}"
+        )
+    }
+}
+
+impl fmt::Display for SinceText {
+    fn fmt<W: fmt::Write>(&self, f: &mut fmt::Formatter<W>) -> fmt::Result {
+        let (purpose, node) = (
+            PurposeName(self.0.purpose),
+            NodeName(requester_in(self.0.key)),
+        );
+        let (lack, number) = (lack_of(&self.0), self.0.since);
+        write!(f, "{purpose} node {node}, since line {number} {lack}")
     }
 }
 

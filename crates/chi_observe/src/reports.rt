@@ -1,17 +1,17 @@
 //! The report on a trace.
 
-ghost use Rattle.std.specs.Prelude.{◌≡◌, IfOk, Some, codes, string_bytes};
+ghost use Rattle.std.specs.Prelude.{◌≡◌, IfOk, codes, string_bytes};
 ghost use Rattle.chi_observe.specs.Pending.{is_open};
-ghost use Rattle.chi_observe.specs.Reports.{BeginsWith, IsOutcomeOf, IsReportText, accepted_line, ended_outcome, is_nothing_seen, malformed_front, numbered};
+ghost use Rattle.chi_observe.specs.Reports.{BeginsWith, IsOutcomeOf, IsReportText, accepted_line, ended_outcome, is_nothing_seen, numbered};
 ghost use Rattle.chi_observe.specs.Watched.{watched};
 
-use crate::names::{LineName, NodeName, SeenName, requester_of};
+use crate::malformed::malformed_text;
+use crate::names::{LineName, NodeName, SeenName, joined, requester_of};
 use crate::seen::event_of;
 use crate::stream::TextStop;
 use crate::watch::{Counts, Watch, WatchFault};
-use chi_trace::{AnySeen, Column, TraceFault};
+use chi_trace::{AnySeen, TraceFault};
 use std::alloc::{AllocError, Allocator};
-use std::fmt;
 use std::fmt::Write;
 
 /// What came of a trace.
@@ -60,15 +60,6 @@ fn ended_outcome(complete: bool, is_open: bool, counts: Counts) -> ObserveOutcom
     }
 }
 
-/// The text with this behind it.
-fn joined<A: Allocator>(front: String<A>, rest: &str) -> Result<String<A>, AllocError>
-    ensures { IfOk result (λ text. BeginsWith (string_bytes front) (string_bytes text)) }
-{
-    let mut text = front;
-    text.push_str(rest)?;
-    Ok(text)
-}
-
 /// The line on a trace whose flits are all taken.
 fn accepted_line<A: Allocator>(alloc: A, counts: Counts) -> Result<String<A>, AllocError>
     ensures { IfOk result (λ text. string_bytes text ≡ accepted_line counts) }
@@ -96,60 +87,6 @@ fn numbered<A: Allocator>(alloc: A, number: usize) -> Result<String<A>, AllocErr
     let mut text = String::new(alloc);
     write!(text, "line {number}: ")?;
     Ok(text)
-}
-
-/// How the line on a line that is none begins.
-#[derive(Clone, Copy)]
-struct MalformedFront(TraceFault);
-
-impl fmt::Display for MalformedFront {
-    ghost output = { λ front. Some (malformed_front front.0) };
-
-    fn fmt<W: fmt::Write>(&self, f: &mut fmt::Formatter<W>) -> fmt::Result {
-        match self.0 {
-            TraceFault::NoMemory | TraceFault::TooLarge => write!(f, "chihome: "),
-            TraceFault::MissingNewline(line) => {
-                write!(f, "chihome: line {line}: missing newline")
-            }
-            TraceFault::FewWords(line) => {
-                write!(f, "chihome: line {line}: fewer than eleven words")
-            }
-            TraceFault::BadWord { line, column: _ } => write!(f, "chihome: line {line}: "),
-        }
-    }
-}
-
-/// The same as a text.
-fn malformed_front<A: Allocator>(alloc: A, fault: TraceFault) -> Result<String<A>, AllocError>
-    ensures { IfOk result (λ text. string_bytes text ≡ malformed_front fault) }
-{
-    let front = MalformedFront(fault);
-    let mut text = String::new(alloc);
-    write!(text, "{front}")?;
-    Ok(text)
-}
-
-/// What is expected in the column that is wrong.
-fn expected(fault: TraceFault) -> &'static str {
-    match fault {
-        TraceFault::BadWord { line: _, column } => match column {
-            Column::Channel => "CH: expected REQ, SNP, RSP, DAT or CPU",
-            Column::Source => "SRC: expected a hexadecimal number, ffff at most",
-            Column::Target => "TGT: expected a hexadecimal number, ffff at most",
-            Column::Txn => "TXN: expected a hexadecimal number, ffff at most",
-            Column::Opcode => "OPCODE: expected one of the channel",
-            Column::Address => "ADDR: expected a hexadecimal number of 64 bits",
-            Column::Resp => "RESP: expected a state, or a state with _PD",
-            Column::Dbid => "DBID: expected a hexadecimal number, ffff at most",
-            Column::AllowRetry => "AR: expected 0 or 1",
-            Column::Pcrd => "PCRD: expected a hexadecimal number, f at most",
-            Column::Data => "DATA: expected hexadecimal words",
-        },
-        TraceFault::NoMemory
-        | TraceFault::TooLarge
-        | TraceFault::MissingNewline(_)
-        | TraceFault::FewWords(_) => "",
-    }
 }
 
 impl<A: Allocator + Copy> Watch<A> {
@@ -212,12 +149,13 @@ impl<A: Allocator + Copy> Watch<A> {
         }
     }
 
-    /// The report on a trace whose flits are all taken, or that stopped so.
+    /// The report on a trace whose flits are all taken, or that stopped so, at this line where that is none.
     pub(crate) fn report(
         &self,
         alloc: A,
         complete: bool,
         stop: &Option<TextStop>,
+        line: &[u8],
     ) -> Result<ObserveReport<A>, AllocError>
         ensures outcome { IfOk result
             (λ report. IsOutcomeOf complete (watched self.now) stop.now report.outcome) }
@@ -231,7 +169,7 @@ impl<A: Allocator + Copy> Watch<A> {
                 Ok(ObserveReport { outcome, text })
             }
             Some(TextStop::Malformed(fault)) => {
-                let text = malformed_text(alloc, *fault)?;
+                let text = malformed_text(alloc, *fault, line)?;
                 let outcome = ObserveOutcome::Malformed(*fault);
                 Ok(ObserveReport { outcome, text })
             }
@@ -243,14 +181,6 @@ impl<A: Allocator + Copy> Watch<A> {
             Some(TextStop::NoMemory) => Err(AllocError),
         }
     }
-}
-
-/// What is told of a line that is none.
-fn malformed_text<A: Allocator + Copy>(alloc: A, fault: TraceFault) -> Result<String<A>, AllocError>
-    ensures { IfOk result (λ text. BeginsWith (malformed_front fault) (string_bytes text)) }
-{
-    let front = malformed_front(alloc, fault)?;
-    joined(front, expected(fault))
 }
 
 /// Puts a line for what isn't judged behind the text: loads and stores, and lines that were set aside.

@@ -60,19 +60,27 @@ impl From<AllocError> for TextStop {
     }
 }
 
-/// Takes a line, which is given without its line end and has this number.
-fn take_text<A: Allocator>(watch: &mut Watch<A>, line: &[u8], number: usize) -> Result<(), TextStop>
+/// Takes a line, which is given without its line end and has this number; one that is none is then what was wrong.
+fn take_text<A: Allocator + Copy>(
+    watch: &mut Watch<A>,
+    wrong: &mut Vec<u8, A>,
+    line: &[u8],
+    number: usize,
+) -> Result<(), TextStop>
     ensures { IsTextTaken (watched watch.old) (watched watch.new) number line.now result }
 {
     match any_flit_in(line, number) {
         Ok(Some(seen)) => take_seen(watch, seen),
         Ok(None) => Ok(()),
-        Err(fault) => Err(TextStop::Malformed(fault)),
+        Err(fault) => {
+            wrong.extend_from_slice(line)?;
+            Err(TextStop::Malformed(fault))
+        }
     }
 }
 
 /// Takes a flit.
-fn take_seen<A: Allocator>(watch: &mut Watch<A>, seen: AnySeen) -> Result<(), TextStop>
+fn take_seen<A: Allocator + Copy>(watch: &mut Watch<A>, seen: AnySeen) -> Result<(), TextStop>
     ensures { IsSeenTaken (watched watch.old) (watched watch.new) seen result }
 {
     match watch.take(&event_of(&seen)) {
@@ -83,8 +91,9 @@ fn take_seen<A: Allocator>(watch: &mut Watch<A>, seen: AnySeen) -> Result<(), Te
 }
 
 /// Takes the lines of these bytes that a line end closes, whatever follows them.
-fn take_lines<'a, A: Allocator>(
+fn take_lines<'a, A: Allocator + Copy>(
     watch: &mut Watch<A>,
+    wrong: &mut Vec<u8, A>,
     bytes: &'a [u8],
     number: usize,
 ) -> Result<Left<'a>, TextStop>
@@ -93,7 +102,7 @@ fn take_lines<'a, A: Allocator>(
     let mut rest = bytes;
     let mut number = number;
     while let Some((line, after)) = first_line(rest) {
-        if let Err(stop) = take_text(watch, line, number) {
+        if let Err(stop) = take_text(watch, wrong, line, number) {
             return Err(stop);
         }
         rest = after;
@@ -120,8 +129,9 @@ impl<A: Allocator + Copy> Stream<A> {
 }
 
 /// Takes the next piece of a trace.
-fn take_piece<A: Allocator>(
+fn take_piece<A: Allocator + Copy>(
     watch: &mut Watch<A>,
+    wrong: &mut Vec<u8, A>,
     stream: Stream<A>,
     piece: &[u8],
 ) -> Result<Stream<A>, TextStop>
@@ -133,7 +143,7 @@ fn take_piece<A: Allocator>(
         number,
     } = stream;
     held.extend_from_slice(piece)?;
-    let left = match take_lines(watch, &held, number) {
+    let left = match take_lines(watch, wrong, &held, number) {
         Ok(left) => left,
         Err(stop) => return Err(stop),
     };
@@ -162,7 +172,7 @@ fn ended<A: Allocator>(stream: &Stream<A>) -> Option<TextStop>
 const PIECE: usize = 4_096;
 
 /// Takes the lines of the trace that the input has, which is read in pieces: `None` where all are taken, else the first that
-/// isn't.
+/// isn't. A line that is none of a trace is then what was wrong.
 ///
 /// `Read` where the input failed, and its count of failures is one more then; `NoMemory` where memory ran out, and the
 /// count stays then, as it does where the trace has ended.
@@ -170,6 +180,7 @@ pub(crate) fn watch_input<A: Allocator + Copy, I: Input>(
     alloc: A,
     input: &mut I,
     watch: &mut Watch<A>,
+    wrong: &mut Vec<u8, A>,
 ) -> Result<Option<TextStop>, Fault>
     requires { I.failures input.old + 1 < 2 ^ 64 }
     ensures told { IsInputWatched (I.left input.old) (watched watch.old) (watched watch.new) result }
@@ -184,7 +195,7 @@ pub(crate) fn watch_input<A: Allocator + Copy, I: Input>(
             Ok(count) => count,
             Err(Failed) => return Err(Fault::Read),
         };
-        stream = match take_piece(watch, stream, &buffer[..count]) {
+        stream = match take_piece(watch, wrong, stream, &buffer[..count]) {
             Ok(stream) => stream,
             Err(TextStop::NoMemory) => return Err(Fault::NoMemory),
             Err(stop) => return Ok(Some(stop)),

@@ -1,14 +1,19 @@
 //! Why a flit isn't taken, in words. No clause says these texts: they are tested.
 
-use crate::events::{Event, flit_by};
-use crate::ids::{CacheLine, IdKey, find_id};
-use crate::names::{GIVEN, KeyName, LineName, NodeName, SENT, ToldName, WordsName};
+use crate::events::{Event, LineEvent, Tells, flit_by};
+use crate::ids::{CacheLine, IdKey, OpenId, find_id};
+use crate::lines::LineSeen;
+use crate::marks::teller_of;
+use crate::names::{GIVEN, KeyName, LineName, NodeName, SENT, ToldName};
 use crate::nodes::agent_of;
+use crate::pending::{SinceText, requester_in};
 use crate::reasons::{IdReason, LineReason};
-use crate::steps::IdStep;
+use crate::steps::{IdStep, Part};
 use crate::watch::{Watch, WatchFault};
 use chi_flit::{Agent, Data, NO_DATA};
-use chi_observer::{AgentSeen, CacheFlit, Due, Flit, HomeFlit, Observer, Reason, Told};
+use chi_observer::{
+    AGENTS, AgentSeen, CacheFlit, Due, Flit, HomeFlit, Kind, Observer, Reason, Told,
+};
 use chi_trace::NodeId;
 use std::alloc::{AllocError, Allocator};
 use std::fmt;
@@ -63,160 +68,229 @@ impl fmt::Display for IdText {
     }
 }
 
-/// What is known of an agent's request and of a snoop to it.
+/// What was told of a requester's copy last, and by which line of the trace; 0 where none has.
 #[derive(Clone, Copy)]
-struct DueText(AgentSeen);
-
-impl fmt::Display for DueText {
-    fn fmt<W: fmt::Write>(&self, f: &mut fmt::Formatter<W>) -> fmt::Result {
-        f.write_str(match self.0.due {
-            Due::Nothing => "no request of it is open",
-            Due::Completion(_) => "its request waits for its completion",
-            Due::Resending(_) => "its request was retried",
-            Due::SureCompletion(_) => "its request with AR 0 waits for its completion",
-            Due::WriteData(_) => "its write data are due",
-            Due::Acknowledgement => "its CompAck is due",
-        })?;
-        if self.0.snooped.is_some() {
-            f.write_str(", and it hasn't answered a snoop")?;
-        }
-        Ok(())
-    }
-}
-
-/// What flits have told of an agent.
-fn agent_seen(observer: &Observer, agent: Agent) -> Option<AgentSeen> {
-    match observer.agents.get(usize::from(agent.0)) {
-        Some(seen) => Some(*seen),
-        None => None,
-    }
-}
-
-/// The agent of a flit.
-fn agent_of_flit(flit: Flit) -> Agent {
-    match flit {
-        Flit::Up(sent) => sent.agent,
-        Flit::Down(given) => given.agent,
-    }
-}
-
-/// The first other agent of which this holds: that a CompAck or write data are due.
-fn busy_agent(observer: &Observer) -> Option<usize> {
-    observer.agents.iter().position(|seen| matches!(
-        seen.due,
-        Due::WriteData(_) | Due::Acknowledgement
-    ))
-}
-
-/// The first other agent that was told to have such a copy.
-fn first_holder(observer: &Observer, agent: Agent, dirty: bool) -> Option<(usize, AgentSeen)> {
-    for (number, seen) in observer.agents.iter().enumerate() {
-        let is_holder = if dirty {
-            seen.told == Told::SD
-        } else {
-            seen.told != Told::I
-        };
-        if is_holder && number != usize::from(agent.0) {
-            return Some((number, *seen));
-        }
-    }
-    None
-}
-
-/// Another agent whose copy doesn't go with one that the agent is given: the owner, where one is shared and dirty.
-fn holder(observer: &Observer, agent: Agent) -> Option<(usize, AgentSeen)> {
-    match first_holder(observer, agent, true) {
-        Some(owner) => Some(owner),
-        None => first_holder(observer, agent, false),
-    }
-}
-
-/// Puts the name of the requester with this number behind the text.
-fn write_node<A: Allocator>(
-    text: &mut String<A>,
-    requesters: &[NodeId],
+struct CopyText {
+    node: NodeId,
+    told: Told,
     number: usize,
-) -> Result<(), AllocError> {
-    match requesters.get(number) {
-        Some(node) => {
-            let node = NodeName(*node);
-            write!(text, "node {node}")
+}
+
+impl fmt::Display for CopyText {
+    fn fmt<W: fmt::Write>(&self, f: &mut fmt::Formatter<W>) -> fmt::Result {
+        let (node, told, number) = (NodeName(self.node), ToldName(self.told), self.number);
+        if number == 0 {
+            return write!(f, "no flit has told of a copy of node {node}");
         }
-        None => write!(text, "a node"),
+        write!(
+            f,
+            "the copy of node {node} was last told to be {told}, by line {number}"
+        )
     }
 }
 
-/// The words that the home is known to have.
+/// What is known of the line that didn't take a flit.
+#[derive(Drop)]
+struct Known<'a, A: Allocator> {
+    line: CacheLine,
+    /// The flit's requester.
+    node: NodeId,
+    requesters: &'a [NodeId],
+    ids: &'a [OpenId],
+    observer: &'a Observer,
+    /// By which lines of the trace; none of a line that no flit has touched.
+    seen: Option<&'a LineSeen<A>>,
+}
+
+/// The home's words that are known.
 fn known_words(observer: &Observer) -> Data {
     observer.home.unwrap_or(NO_DATA)
 }
 
-/// Puts the reason of a line's rule behind the text.
-fn write_rule<A: Allocator>(
-    text: &mut String<A>,
-    requesters: &[NodeId],
-    observer: &Observer,
-    flit: Flit,
-    reason: Reason,
-) -> Result<(), AllocError> {
-    let agent = agent_of_flit(flit);
-    match reason {
-        Reason::NotSent | Reason::NotDue => write_due(text, observer, agent),
-        Reason::Busy => {
-            write!(text, "the home awaits a CompAck or write data of ")?;
-            write_node(text, requesters, busy_agent(observer).unwrap_or(32))
+/// Whether the id is of what the home awaits of a requester: a CompAck or write data.
+fn is_awaited(id: &OpenId) -> bool {
+    matches!(id.key, IdKey::Buffer(_, _))
+}
+
+/// Whether a ReadOnce of the agent is open.
+fn reads_once(observer: &Observer, agent: Agent) -> bool {
+    match observer.agents.get(usize::from(agent.0)) {
+        Some(seen) => matches!(
+            seen.due,
+            Due::Completion(Kind::ReadOnce) | Due::SureCompletion(Kind::ReadOnce)
+        ),
+        None => false,
+    }
+}
+
+/// An agent of whom nothing was told.
+const NOBODY: AgentSeen = AgentSeen {
+    told: Told::I,
+    cancelled: false,
+    due: Due::Nothing,
+    snooped: None,
+};
+
+/// An observer that knows of these two agents alone what the given one does.
+fn pair_of(observer: &Observer, one: usize, other: usize) -> Observer {
+    let mut agents = [NOBODY; 32];
+    agents[one % AGENTS] = observer.agents[one % AGENTS];
+    agents[other % AGENTS] = observer.agents[other % AGENTS];
+    Observer {
+        agents,
+        home: observer.home,
+        current: observer.current,
+        duty: observer.duty,
+        thrown: observer.thrown,
+        waits: observer.waits,
+        shown: observer.shown,
+    }
+}
+
+/// Whether the other agent's copy alone doesn't let the flit be taken.
+fn is_in_the_way(observer: &Observer, flit: Flit, other: usize) -> bool {
+    let agent = usize::from(teller_of(flit).0);
+    let mut pair = pair_of(observer, agent, other);
+    other != agent && matches!(pair.take(flit), Err(Reason::OtherCopy))
+}
+
+/// Puts `; ` behind the text, but where this is the first.
+fn write_next<A: Allocator>(text: &mut String<A>, first: &mut bool) -> Result<(), AllocError> {
+    let mark = if *first { "" } else { "; " };
+    *first = false;
+    write!(text, "{mark}")
+}
+
+impl<A: Allocator> Known<'_, A> {
+    /// What was told of the copy of a node last, which is this agent.
+    fn copy(&self, node: NodeId, agent: usize) -> CopyText {
+        let told = match self.observer.agents.get(agent) {
+            Some(seen) => seen.told,
+            None => Told::I,
+        };
+        let number = match self.seen {
+            Some(seen) => match seen.marks.copies.get(agent) {
+                Some(number) => *number,
+                None => 0,
+            },
+            None => 0,
+        };
+        CopyText { node, told, number }
+    }
+
+    /// Puts the copies of all other agents that don't let the flit be taken behind the text.
+    fn write_others(&self, text: &mut String<A>, flit: Flit) -> Result<(), AllocError> {
+        let mut first = true;
+        for other in 0..AGENTS {
+            if let Some(node) = self.requesters.get(other) {
+                if is_in_the_way(self.observer, flit, other) {
+                    let copy = self.copy(*node, other);
+                    write_next(text, &mut first)?;
+                    write!(text, "{copy}")?;
+                }
+            }
         }
-        Reason::NoMoment => {
+        Ok(())
+    }
+
+    /// Puts what is open of the line behind the text: of this requester, or of all what the home awaits.
+    fn write_open(
+        &self,
+        text: &mut String<A>,
+        of: Option<NodeId>,
+        first: &mut bool,
+    ) -> Result<(), AllocError> {
+        for id in self.ids {
+            let is_wanted = match of {
+                Some(node) => requester_in(id.key).0 == node.0,
+                None => is_awaited(id),
+            };
+            if is_wanted && id.line.0 == self.line.0 {
+                let id = SinceText(*id);
+                write_next(text, first)?;
+                write!(text, "{id}")?;
+            }
+        }
+        Ok(())
+    }
+
+    /// Puts the copy of the flit's requester, its request and a snoop to it behind the text.
+    fn write_requester(&self, text: &mut String<A>, agent: Agent) -> Result<(), AllocError> {
+        let copy = self.copy(self.node, usize::from(agent.0));
+        write!(text, "{copy}")?;
+        let before = text.len();
+        self.write_open(text, Some(self.node), &mut false)?;
+        if text.len() == before {
+            write!(text, "; nothing of it is open")?;
+        }
+        Ok(())
+    }
+
+    /// Puts the words that are others than the known ones behind the text.
+    fn write_words(&self, text: &mut String<A>, shown: Data) -> Result<(), AllocError> {
+        let known = known_words(self.observer);
+        let mut first = true;
+        for word in 0..8 {
+            let (is, expected) = (shown[word], known[word]);
+            if is != expected {
+                write_next(text, &mut first)?;
+                write!(text, "word {word} is {is:x}, expected {expected:x}")?;
+            }
+        }
+        if let Some(seen) = self.seen {
+            let number = seen.marks.words;
+            write!(text, ", by line {number}")?;
+        }
+        Ok(())
+    }
+
+    /// Puts which moment a requester's CleanShared or ReadOnce lacks behind the text.
+    fn write_moment(&self, text: &mut String<A>, agent: Agent) -> Result<(), AllocError> {
+        if reads_once(self.observer, agent) {
             write!(
                 text,
-                "another copy may have been dirty since its request was sent"
-            )
+                "the home may have lacked the value last stored since its request was sent; "
+            )?;
+        } else {
+            write!(
+                text,
+                "another copy may have been dirty since its request was sent; "
+            )?;
         }
-        Reason::NoOverwriter => write!(
-            text,
-            "no request of another is open for which copies may be thrown away"
-        ),
-        Reason::NoDuty => write!(text, "the home has no dirty data to pass on"),
-        Reason::OtherWords => {
-            let words = WordsName(known_words(observer));
-            write!(text, "the words are {words}")
+        self.write_requester(text, agent)
+    }
+
+    /// Puts the reason of a line's rule behind the text.
+    fn write_rule(
+        &self,
+        text: &mut String<A>,
+        flit: Flit,
+        reason: Reason,
+    ) -> Result<(), AllocError> {
+        match reason {
+            Reason::NotSent | Reason::NotDue => self.write_requester(text, teller_of(flit)),
+            Reason::Busy => self.write_open(text, None, &mut true),
+            Reason::NoMoment => self.write_moment(text, teller_of(flit)),
+            Reason::NoOverwriter => {
+                write!(
+                    text,
+                    "no MakeUnique, MakeInvalid or WriteUniqueFull of another node is open"
+                )
+            }
+            Reason::NoDuty => write!(text, "the home has no dirty data to pass on"),
+            Reason::Lost => write!(text, "the value last stored may have been thrown away"),
+            Reason::OtherWords => self.write_words(text, words_of(flit)),
+            Reason::OtherCopy => self.write_others(text, flit),
+            Reason::NoAgent | Reason::NotJudged => write!(text, "it isn't judged"),
         }
-        Reason::OtherCopy => write_holder(text, requesters, observer, agent),
-        Reason::Lost => write!(text, "the value last stored may have been thrown away"),
-        Reason::NoAgent | Reason::NotJudged => write!(text, "it isn't judged"),
     }
 }
 
-/// Puts what is known of an agent behind the text.
-fn write_due<A: Allocator>(
-    text: &mut String<A>,
-    observer: &Observer,
-    agent: Agent,
-) -> Result<(), AllocError> {
-    match agent_seen(observer, agent) {
-        Some(seen) => {
-            let (told, due) = (ToldName(seen.told), DueText(seen));
-            write!(text, "its copy was last told to be {told}; {due}")
-        }
-        None => Ok(()),
-    }
-}
-
-/// Puts another agent's copy behind the text.
-fn write_holder<A: Allocator>(
-    text: &mut String<A>,
-    requesters: &[NodeId],
-    observer: &Observer,
-    agent: Agent,
-) -> Result<(), AllocError> {
-    match holder(observer, agent) {
-        Some((number, seen)) => {
-            let told = ToldName(seen.told);
-            write!(text, "the copy of ")?;
-            write_node(text, requesters, number)?;
-            write!(text, " was last told to be {told}")
-        }
-        None => Ok(()),
+/// The words of a flit.
+fn words_of(flit: Flit) -> Data {
+    match flit {
+        Flit::Up(sent) => sent.shown,
+        Flit::Down(given) => given.shown,
     }
 }
 
@@ -294,17 +368,48 @@ fn write_given<A: Allocator>(
     Ok(())
 }
 
-/// Puts why an observer doesn't take the flit behind the text, and what it takes in its place.
-fn write_observed<A: Allocator>(
-    text: &mut String<A>,
-    requesters: &[NodeId],
-    observer: &Observer,
-    flit: Flit,
-    reason: Reason,
-) -> Result<(), AllocError> {
-    write_rule(text, requesters, observer, flit, reason)?;
-    write!(text, "; allowed: ")?;
-    write_allowed(text, observer, flit)
+/// The id that a flit names, where it names one.
+fn named_key(event: &LineEvent) -> Option<IdKey> {
+    let sides = event.sides;
+    match event.step {
+        IdStep::Attempt(_, _, _) => None,
+        IdStep::Again(_, _, line, _) => Some(IdKey::Retried(sides, line)),
+        IdStep::Snoop(_, _, _) => None,
+        IdStep::RetryAck(txn, _) => Some(IdKey::Request(sides, txn)),
+        IdStep::Complete(txn) => Some(IdKey::Request(sides, txn)),
+        IdStep::CompleteWith(txn, _) => Some(IdKey::Request(sides, txn)),
+        IdStep::ReadData(txn, _, _) => Some(IdKey::Request(sides, txn)),
+        IdStep::Answer(txn) => Some(IdKey::Snoop(sides, txn)),
+        IdStep::AnswerData(txn, _) => Some(IdKey::Snoop(sides, txn)),
+        IdStep::Acknowledge(dbid) => Some(IdKey::Buffer(sides, dbid)),
+        IdStep::WriteData(dbid, _) => Some(IdKey::Buffer(sides, dbid)),
+    }
+}
+
+/// The line that a flit names, where it names one.
+fn named_line(event: &LineEvent) -> Option<CacheLine> {
+    match event.step {
+        IdStep::Attempt(_, _, line) => Some(line),
+        IdStep::Again(_, _, line, _) => Some(line),
+        IdStep::Snoop(_, _, line) => Some(line),
+        IdStep::UnknownRequest(_, line, _) => Some(line),
+        IdStep::UnknownSnoop(_, line) => Some(line),
+        _ => event.at,
+    }
+}
+
+/// The id that a reason rests on, where it is one that is open.
+fn key_of(reason: IdReason, event: &Event) -> Option<IdKey> {
+    match (reason, event) {
+        (IdReason::InUse(key), _) => Some(key),
+        (IdReason::Unfinished(key), _) => Some(key),
+        (IdReason::WordAgain(key), _) => Some(key),
+        (IdReason::NotRetryable(key), _) => Some(key),
+        (IdReason::NoDbid(key), _) => Some(key),
+        (IdReason::WrongAddress { .. }, Event::Line(event)) => named_key(event),
+        (IdReason::OtherType { .. }, Event::Line(event)) => named_key(event),
+        _ => None,
+    }
 }
 
 impl<A: Allocator> Watch<A> {
@@ -313,32 +418,28 @@ impl<A: Allocator> Watch<A> {
         let Event::Line(event) = event else {
             return None;
         };
-        let sides = event.sides;
-        let key = match event.step {
-            IdStep::Attempt(_, _, line) => return Some(line),
-            IdStep::Again(_, _, line, _) => return Some(line),
-            IdStep::Snoop(_, _, line) => return Some(line),
-            IdStep::RetryAck(txn, _) => IdKey::Request(sides, txn),
-            IdStep::Complete(txn) => IdKey::Request(sides, txn),
-            IdStep::CompleteWith(txn, _) => IdKey::Request(sides, txn),
-            IdStep::ReadData(txn, _, _) => IdKey::Request(sides, txn),
-            IdStep::Answer(txn) => IdKey::Snoop(sides, txn),
-            IdStep::AnswerData(txn, _) => IdKey::Snoop(sides, txn),
-            IdStep::Acknowledge(dbid) => IdKey::Buffer(sides, dbid),
-            IdStep::WriteData(dbid, _) => IdKey::Buffer(sides, dbid),
-            IdStep::UnknownRequest(_, line, _) => return Some(line),
-            IdStep::UnknownSnoop(_, line) => return Some(line),
-            IdStep::UnknownAnswer(txn) => IdKey::Snoop(sides, txn),
-            IdStep::UnknownReply(txn, _) => IdKey::Request(sides, txn),
-        };
-        match (event.at, find_id(&self.ids, key)) {
+        match (named_line(event), named_key(event)) {
             (Some(line), _) => Some(line),
-            (None, Some(id)) => Some(id.line),
+            (None, Some(key)) => match find_id(&self.ids, key) {
+                Some(id) => Some(id.line),
+                None => None,
+            },
             (None, None) => None,
         }
     }
 
-    /// Puts why the line of a flit doesn't take it behind the text.
+    /// What a flit tells its line: data that came in beats all their words.
+    fn told_by(&self, event: &LineEvent) -> Tells {
+        match self.allowed(event) {
+            Ok(change) => match change.part {
+                Part::Last(told) => told,
+                Part::Whole | Part::First | Part::Further => event.tells,
+            },
+            Err(_) => event.tells,
+        }
+    }
+
+    /// Puts why the line of a flit doesn't take it behind the text, and what it takes in its place.
     fn write_line_fault(
         &self,
         text: &mut String<A>,
@@ -349,13 +450,65 @@ impl<A: Allocator> Watch<A> {
             return Ok(());
         };
         let agent = agent_of(&self.requesters, &self.homes, flit.sides);
-        let Some(flit) = flit_by(flit.tells, agent) else {
+        let node = flit.sides.requester;
+        let Some(flit) = flit_by(self.told_by(flit), agent) else {
             return Ok(());
         };
-        match self.lines.get(&line.0) {
-            Some(seen) => { write_observed(text, &self.requesters, &seen.observer, flit, reason) }
-            None => write_observed(text, &self.requesters, &Observer::new(), flit, reason),
+        let untouched = Observer::new();
+        let seen = self.lines.get(&line.0);
+        let observer = match seen {
+            Some(seen) => &seen.observer,
+            None => &untouched,
+        };
+        let known = Known {
+            line,
+            node,
+            requesters: &self.requesters,
+            ids: self.ids.values().as_slice(),
+            observer,
+            seen,
+        };
+        known.write_rule(text, flit, reason)?;
+        write!(text, "; allowed: ")?;
+        write_allowed(text, observer, flit)
+    }
+
+    /// Puts by which line of the trace the id was opened behind the text, where a reason rests on one.
+    fn write_since(
+        &self,
+        text: &mut String<A>,
+        event: &Event,
+        reason: IdReason,
+    ) -> Result<(), AllocError> {
+        if let Some(key) = key_of(reason, event) {
+            if let Some(id) = find_id(&self.ids, key) {
+                let number = id.since;
+                return match reason {
+                    IdReason::InUse(_) => write!(text, ", since line {number}"),
+                    IdReason::OtherType { .. } => write!(text, ", since line {number}"),
+                    _ => write!(text, "; line {number} opened it"),
+                };
+            }
         }
+        Ok(())
+    }
+
+    /// Puts the home of a line behind the text.
+    fn write_home(
+        &self,
+        text: &mut String<A>,
+        event: &Event,
+        home: NodeId,
+    ) -> Result<(), AllocError> {
+        let home = NodeName(home);
+        write!(text, "the line's home is node {home}")?;
+        if let Some(line) = self.place_of(event) {
+            if let Some(seen) = self.lines.get(&line.0) {
+                let number = seen.marks.first;
+                write!(text, ", since line {number}")?;
+            }
+        }
+        Ok(())
     }
 
     /// Puts why this isn't taken behind the text.
@@ -367,13 +520,11 @@ impl<A: Allocator> Watch<A> {
     ) -> Result<(), AllocError> {
         match fault {
             WatchFault::Ids(reason) => {
-                let reason = IdText(reason);
-                write!(text, "{reason}")
+                let shown = IdText(reason);
+                write!(text, "{shown}")?;
+                self.write_since(text, event, reason)
             }
-            WatchFault::Line(LineReason::OtherHome(home)) => {
-                let home = NodeName(home);
-                write!(text, "the line's home is node {home}")
-            }
+            WatchFault::Line(LineReason::OtherHome(home)) => self.write_home(text, event, home),
             WatchFault::Line(LineReason::Rule(reason)) => {
                 self.write_line_fault(text, event, reason)
             }

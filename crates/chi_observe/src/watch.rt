@@ -1,8 +1,8 @@
 //! A watch over a trace: what its flits so far have told, and whether the next one is taken.
 
-ghost use Rattle.std.specs.Prelude.{◌≡◌, IfSome, OnOk};
+ghost use Rattle.std.specs.Prelude.{◌≡◌, IfSome, OnOk, option_map};
 ghost use Rattle.chi_observe.specs.declared.watch.WatchStop.TheVariants.{NoMemory};
-ghost use Rattle.chi_observe.specs.Ids.{with_id, without};
+ghost use Rattle.chi_observe.specs.Ids.{opened_at, with_id, without};
 ghost use Rattle.chi_observe.specs.Credits.{booked, booked_all};
 ghost use Rattle.chi_observe.specs.Lines.{lines_in};
 ghost use Rattle.chi_observe.specs.Steps.{granted, ids_after, returned, table_of};
@@ -183,8 +183,8 @@ fn free_id<A: Allocator>(ids: &mut IdTable<A>, frees: Option<IdKey>)
     }
 }
 
-/// An id is open, if one is.
-fn open_id<A: Allocator>(ids: &mut IdTable<A>, opens: Option<OpenId>) -> Result<(), AllocError>
+/// An id is kept open, if one is.
+fn keep_id<A: Allocator>(ids: &mut IdTable<A>, opens: Option<OpenId>) -> Result<(), AllocError>
     ensures { OnOk result (ids.new.entries ≡ with_id opens ids.old.entries) }
 {
     if let Some(id) = opens {
@@ -193,13 +193,27 @@ fn open_id<A: Allocator>(ids: &mut IdTable<A>, opens: Option<OpenId>) -> Result<
     Ok(())
 }
 
-/// The ids behind a flit.
-fn change_ids<A: Allocator>(ids: &mut IdTable<A>, change: &Change) -> Result<(), AllocError>
-    ensures { OnOk result (ids.new.entries ≡ ids_after change.now ids.old.entries) }
+/// The id that a flit with this number opens, if it opens one.
+fn opened(opens: Option<OpenId>, number: usize) -> Option<OpenId>
+    ensures { result ≡ option_map (opened_at number) opens }
+{
+    match opens {
+        Some(id) => Some(id.opened_at(number)),
+        None => None,
+    }
+}
+
+/// The ids behind a flit with this number.
+fn change_ids<A: Allocator>(
+    ids: &mut IdTable<A>,
+    change: &Change,
+    number: usize,
+) -> Result<(), AllocError>
+    ensures { OnOk result (ids.new.entries ≡ ids_after number change.now ids.old.entries) }
 {
     free_id(ids, change.frees);
-    open_id(ids, change.keeps)?;
-    open_id(ids, change.opens)
+    keep_id(ids, change.keeps)?;
+    keep_id(ids, opened(change.opens, number))
 }
 
 impl<A: Allocator + Copy> Watch<A> {
@@ -241,7 +255,7 @@ impl<A: Allocator> Watch<A> {
     }
 
     /// What a flit of a line does to ids and credits, or why they don't allow it.
-    fn allowed(&self, event: &LineEvent) -> Result<Change, IdReason>
+    pub(crate) fn allowed(&self, event: &LineEvent) -> Result<Change, IdReason>
         ensures { result ≡ allowed (watched self.now) event.now }
     {
         match event.tells {
@@ -302,26 +316,28 @@ impl<A: Allocator> Watch<A> {
     /// What a flit of this agent that does this leaves, but of its line.
     fn settle(
         &mut self,
-        sides: Sides,
+        event: &LineEvent,
         change: &Change,
         agent: Option<Agent>,
         mark: Option<Aside>,
         fresh: bool,
     ) -> Result<(), AllocError>
         ensures { OnOk result
-            (watched self.new ≡ settled (watched self.old) sides change.now agent mark fresh) }
+            (watched self.new ≡ settled (watched self.old) event.now change.now agent mark fresh) }
     {
         let Some(counts) = self.counts.with_flit(change.part, mark, fresh) else {
             return Err(AllocError);
         };
-        add_requester(&mut self.requesters, agent, sides.requester)?;
-        add_home(&mut self.homes, agent, sides.home)?;
-        change_ids(&mut self.ids, change)?;
+        add_requester(&mut self.requesters, agent, event.sides.requester)?;
+        add_home(&mut self.homes, agent, event.sides.home)?;
+        change_ids(&mut self.ids, change, event.number)?;
         book_all(&mut self.accounts, &change.books)?;
         self.counts = counts;
         Ok(())
     }
+}
 
+impl<A: Allocator + Copy> Watch<A> {
     /// The agent that a flit's requester is; none where the flit isn't judged.
     fn agent_in(&self, event: &LineEvent) -> Option<Agent>
         ensures { result ≡ agent_in (watched self.now) event.now }
@@ -339,13 +355,14 @@ impl<A: Allocator> Watch<A> {
         ensures { IsFlitWatched (watched self.old) (watched self.new) event.now change.now result }
     {
         if matches!(change.part, Part::Further) {
-            return Ok(change_ids(&mut self.ids, change)?);
+            return Ok(change_ids(&mut self.ids, change, event.number)?);
         }
         let agent = self.agent_in(event);
         let news = news_of(event.tells, change.part, agent);
         let mark = mark_of(&self.lines, change.line, news, event.number);
-        match tell(&mut self.lines, change.line, event.sides.home, news) {
-            Ok(fresh) => Ok(self.settle(event.sides, change, agent, mark, fresh)?),
+        let home = event.sides.home;
+        match tell(&mut self.lines, change.line, home, news, event.number) {
+            Ok(fresh) => Ok(self.settle(event, change, agent, mark, fresh)?),
             Err(LineStop::Refused(reason)) => Err(WatchStop::Fault(WatchFault::Line(reason))),
             Err(LineStop::NoMemory) => Err(WatchStop::NoMemory),
         }

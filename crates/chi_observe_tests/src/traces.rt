@@ -12,7 +12,7 @@ const TRACE: &[u8] = b"REQ 8 40 1 ReadShared 1040 - - 1 - -\n\
 
 /// The first line of what is told of it.
 const TOLD: &[u8] =
-    b"line 5: CompData_SC to node 9 at 1040: the copy of node 8 was last told to be UC; ";
+    b"line 5: CompData_SC to node 9 at 1040: the copy of node 8 was last told to be UC, by line 2; ";
 
 const OPTIONS: WatchOptions = WatchOptions {
     types: CreditTypes::Any,
