@@ -383,6 +383,10 @@ fn named_key(event: &LineEvent) -> Option<IdKey> {
         IdStep::AnswerData(txn, _) => Some(IdKey::Snoop(sides, txn)),
         IdStep::Acknowledge(dbid) => Some(IdKey::Buffer(sides, dbid)),
         IdStep::WriteData(dbid, _) => Some(IdKey::Buffer(sides, dbid)),
+        IdStep::UnknownRequest(_, _, _) => None,
+        IdStep::UnknownSnoop(_, _) => None,
+        IdStep::UnknownAnswer(txn) => Some(IdKey::Snoop(sides, txn)),
+        IdStep::UnknownReply(txn, _) => Some(IdKey::Request(sides, txn)),
     }
 }
 
