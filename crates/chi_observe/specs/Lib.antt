@@ -10,4 +10,5 @@ pub mod Watched
 pub mod Seen
 pub mod Streams
 pub mod Pending
+pub mod Recent
 pub mod Reports

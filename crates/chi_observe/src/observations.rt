@@ -5,19 +5,22 @@ ghost use Rattle.std.specs.Io.KnownBytes.{Keeps};
 ghost use Rattle.chi_script.specs.Devices.{AppendsFront, CountsFault};
 ghost use Rattle.chi_observe.specs.Reports.{AtFailedWrite, IsObserved, IsReportFront, IsReportWritten, IsUnreported, is_malformed};
 
+use crate::progress::Progress;
 use crate::reports::{ObserveOutcome, ObserveReport};
 use crate::steps::WatchOptions;
-use crate::stream::watch_input;
+use crate::stream::{Notes, watch_input};
 use crate::watch::Watch;
 use chi_script::{Failed, Fault, Input, Output};
 use std::alloc::Allocator;
 
 /// The report on the trace that the input has; `Read` where reading it failed.
-fn report_on_input<A: Allocator + Copy, I: Input>(
+fn report_on_input<A: Allocator + Copy, I: Input, P: Progress>(
     alloc: A,
     input: &mut I,
     options: WatchOptions,
     complete: bool,
+    context: usize,
+    progress: &mut P,
 ) -> Result<ObserveReport<A>, Fault>
     requires { I.failures input.old + 1 < 2 ^ 64 }
     ensures told { IfOk result (λ report. IfSome (I.left input.old)
@@ -26,16 +29,18 @@ fn report_on_input<A: Allocator + Copy, I: Input>(
     ensures err { IfErr result (CountsFault (I.failures input.old) (I.failures input.new)) }
 {
     let mut watch = Watch::new(alloc, options);
-    let mut wrong = Vec::new(alloc);
-    let stop = watch_input(alloc, input, &mut watch, &mut wrong)?;
-    match watch.report(alloc, complete, &stop, &wrong) {
+    let mut notes = Notes::new(alloc, context);
+    let stop = watch_input(alloc, input, &mut watch, &mut notes, progress)?;
+    match watch.report(alloc, complete, &stop, &notes) {
         Ok(report) => Ok(report),
         Err(_) => Err(Fault::NoMemory),
     }
 }
 
 /// Judges the trace that the input has, which is read in pieces, and writes the report on it; of a malformed trace nothing
-/// is written, and the report is one line for standard error.
+/// is written, and the report is one line for standard error. With a fault the flits of its line of memory that were taken
+/// last are told, at most `context` of them, and memory grows by as many for each line; none where that is 0.
+/// `progress` is told after each piece how far the reading has come.
 ///
 /// `Read` where the input failed, `Write` where the output did, and `NoMemory` where memory runs out; that device then
 /// counted one failure, and no other count changed. After `Write` a beginning of such a report was written; after
@@ -43,12 +48,14 @@ fn report_on_input<A: Allocator + Copy, I: Input>(
 ///
 /// Conditions: the counts of failures of the input and of the output are below 2 ^ 64 - 1.
 /// Source: `docs/OBSERVER.md`, "What is printed".
-pub fn observe<A: Allocator + Copy, I: Input, O: Output>(
+pub fn observe<A: Allocator + Copy, I: Input, O: Output, P: Progress>(
     alloc: A,
     input: &mut I,
     output: &mut O,
     options: WatchOptions,
     complete: bool,
+    context: usize,
+    progress: &mut P,
 ) -> Result<ObserveReport<A>, Fault>
     requires reads { I.failures input.old + 1 < 2 ^ 64 }
     requires writes { O.failures output.old + 1 < 2 ^ 64 }
@@ -66,7 +73,7 @@ pub fn observe<A: Allocator + Copy, I: Input, O: Output>(
     ensures kept { IfErr result
         (λ fault. fault ≢ Fault.Write → Keeps (O.written output.old) (O.written output.new)) }
 {
-    let report = report_on_input(alloc, input, options, complete)?;
+    let report = report_on_input(alloc, input, options, complete, context, progress)?;
     write_report(output, report)
 }
 

@@ -8,7 +8,7 @@ ghost use Rattle.chi_observe.specs.Watched.{watched};
 use crate::malformed::malformed_text;
 use crate::names::{LineName, NodeName, SeenName, joined, requester_of};
 use crate::seen::event_of;
-use crate::stream::TextStop;
+use crate::stream::{Notes, TextStop};
 use crate::watch::{Counts, Watch, WatchFault};
 use chi_trace::{AnySeen, TraceFault};
 use std::alloc::{AllocError, Allocator};
@@ -107,6 +107,7 @@ impl<A: Allocator + Copy> Watch<A> {
         alloc: A,
         seen: &AnySeen,
         fault: WatchFault,
+        notes: &Notes<A>,
     ) -> Result<String<A>, AllocError>
         ensures { IfOk result
             (λ text. BeginsWith (numbered seen.now.line) (string_bytes text)) }
@@ -114,6 +115,8 @@ impl<A: Allocator + Copy> Watch<A> {
         let front = numbered(alloc, seen.line)?;
         let mut rest = String::new(alloc);
         self.write_untaken(&mut rest, seen, fault)?;
+        let line = self.place_of(&event_of(seen));
+        write_recent(&mut rest, notes.recent.of(line))?;
         joined(front, &rest)
     }
 
@@ -149,13 +152,13 @@ impl<A: Allocator + Copy> Watch<A> {
         }
     }
 
-    /// The report on a trace whose flits are all taken, or that stopped so, at this line where that is none.
+    /// The report on a trace whose flits are all taken, or that stopped so.
     pub(crate) fn report(
         &self,
         alloc: A,
         complete: bool,
         stop: &Option<TextStop>,
-        line: &[u8],
+        notes: &Notes<A>,
     ) -> Result<ObserveReport<A>, AllocError>
         ensures outcome { IfOk result
             (λ report. IsOutcomeOf complete (watched self.now) stop.now report.outcome) }
@@ -169,18 +172,28 @@ impl<A: Allocator + Copy> Watch<A> {
                 Ok(ObserveReport { outcome, text })
             }
             Some(TextStop::Malformed(fault)) => {
-                let text = malformed_text(alloc, *fault, line)?;
+                let text = malformed_text(alloc, *fault, &notes.wrong)?;
                 let outcome = ObserveOutcome::Malformed(*fault);
                 Ok(ObserveReport { outcome, text })
             }
             Some(TextStop::Untaken(seen, fault)) => {
-                let text = self.faulty_text(alloc, seen, *fault)?;
+                let text = self.faulty_text(alloc, seen, *fault, notes)?;
                 let outcome = ObserveOutcome::Faulty(seen.line);
                 Ok(ObserveReport { outcome, text })
             }
             Some(TextStop::NoMemory) => Err(AllocError),
         }
     }
+}
+
+/// Puts a line for each of these flits behind the text.
+fn write_recent<A: Allocator>(text: &mut String<A>, flits: &[Seen]) -> Result<(), AllocError> {
+    for seen in flits {
+        let (node, side) = requester_of(seen);
+        let (name, node, number) = (SeenName(seen), NodeName(node), seen.line);
+        writeln!(text, "before: line {number}: {name} {side} node {node}")?;
+    }
+    Ok(())
 }
 
 /// Puts a line for what isn't judged behind the text: loads and stores, and lines that were set aside.

@@ -5,6 +5,10 @@ ghost use Rattle.chi_script.specs.Devices.{CountsFault};
 ghost use Rattle.chi_observe.specs.Streams.{AreLinesTaken, IsInputWatched, IsPieceTaken, IsSeenTaken, IsTextTaken, end_of};
 ghost use Rattle.chi_observe.specs.Watched.{watched};
 
+use crate::events::Event;
+use crate::ids::CacheLine;
+use crate::progress::Progress;
+use crate::recent::Recent;
 use crate::seen::event_of;
 use crate::watch::{Watch, WatchFault, WatchStop};
 use chi_script::{Failed, Fault, Input, first_line};
@@ -50,6 +54,41 @@ pub(crate) struct Left<'a> {
     pub number: usize,
 }
 
+/// What a report is to tell besides.
+#[derive(Drop)]
+pub(crate) struct Notes<A: Allocator> {
+    /// The bytes of the line that is none, without its line end.
+    pub wrong: Vec<u8, A>,
+    /// The flits of each line of memory that were taken last.
+    pub recent: Recent<A>,
+}
+
+impl<A: Allocator + Copy> Notes<A> {
+    /// Nothing is noted; so many flits are to be kept of a line.
+    pub(crate) fn new(alloc: A, most: usize) -> Notes<A> {
+        Notes {
+            wrong: Vec::new(alloc),
+            recent: Recent::new(alloc, most),
+        }
+    }
+
+    /// The line of a flit, where flits are to be kept.
+    fn line_of(&self, watch: &Watch<A>, event: &Event) -> Option<CacheLine> {
+        if self.recent.most == 0 {
+            return None;
+        }
+        watch.place_of(event)
+    }
+
+    /// Keeps a flit of the line, if it is known.
+    fn keep(&mut self, line: Option<CacheLine>, seen: AnySeen) -> Result<(), AllocError> {
+        match line {
+            Some(line) => self.recent.keep(line, seen),
+            None => Ok(()),
+        }
+    }
+}
+
 impl From<AllocError> for TextStop {
     ghost use Rattle.chi_observe.specs.declared.stream.TextStop.TheVariants.{NoMemory};
 
@@ -60,31 +99,37 @@ impl From<AllocError> for TextStop {
     }
 }
 
-/// Takes a line, which is given without its line end and has this number; one that is none is then what was wrong.
+/// Takes a line, which is given without its line end and has this number. Of a line that is none the bytes are noted.
 fn take_text<A: Allocator + Copy>(
     watch: &mut Watch<A>,
-    wrong: &mut Vec<u8, A>,
+    notes: &mut Notes<A>,
     line: &[u8],
     number: usize,
 ) -> Result<(), TextStop>
     ensures { IsTextTaken (watched watch.old) (watched watch.new) number line.now result }
 {
     match any_flit_in(line, number) {
-        Ok(Some(seen)) => take_seen(watch, seen),
+        Ok(Some(seen)) => take_seen(watch, notes, seen),
         Ok(None) => Ok(()),
         Err(fault) => {
-            wrong.extend_from_slice(line)?;
+            notes.wrong.extend_from_slice(line)?;
             Err(TextStop::Malformed(fault))
         }
     }
 }
 
 /// Takes a flit.
-fn take_seen<A: Allocator + Copy>(watch: &mut Watch<A>, seen: AnySeen) -> Result<(), TextStop>
+fn take_seen<A: Allocator + Copy>(
+    watch: &mut Watch<A>,
+    notes: &mut Notes<A>,
+    seen: AnySeen,
+) -> Result<(), TextStop>
     ensures { IsSeenTaken (watched watch.old) (watched watch.new) seen result }
 {
-    match watch.take(&event_of(&seen)) {
-        Ok(()) => Ok(()),
+    let event = event_of(&seen);
+    let line = notes.line_of(watch, &event);
+    match watch.take(&event) {
+        Ok(()) => Ok(notes.keep(line, seen)?),
         Err(WatchStop::Fault(fault)) => Err(TextStop::Untaken(seen, fault)),
         Err(WatchStop::NoMemory) => Err(TextStop::NoMemory),
     }
@@ -93,7 +138,7 @@ fn take_seen<A: Allocator + Copy>(watch: &mut Watch<A>, seen: AnySeen) -> Result
 /// Takes the lines of these bytes that a line end closes, whatever follows them.
 fn take_lines<'a, A: Allocator + Copy>(
     watch: &mut Watch<A>,
-    wrong: &mut Vec<u8, A>,
+    notes: &mut Notes<A>,
     bytes: &'a [u8],
     number: usize,
 ) -> Result<Left<'a>, TextStop>
@@ -102,7 +147,7 @@ fn take_lines<'a, A: Allocator + Copy>(
     let mut rest = bytes;
     let mut number = number;
     while let Some((line, after)) = first_line(rest) {
-        if let Err(stop) = take_text(watch, wrong, line, number) {
+        if let Err(stop) = take_text(watch, notes, line, number) {
             return Err(stop);
         }
         rest = after;
@@ -131,7 +176,7 @@ impl<A: Allocator + Copy> Stream<A> {
 /// Takes the next piece of a trace.
 fn take_piece<A: Allocator + Copy>(
     watch: &mut Watch<A>,
-    wrong: &mut Vec<u8, A>,
+    notes: &mut Notes<A>,
     stream: Stream<A>,
     piece: &[u8],
 ) -> Result<Stream<A>, TextStop>
@@ -143,7 +188,7 @@ fn take_piece<A: Allocator + Copy>(
         number,
     } = stream;
     held.extend_from_slice(piece)?;
-    let left = match take_lines(watch, wrong, &held, number) {
+    let left = match take_lines(watch, notes, &held, number) {
         Ok(left) => left,
         Err(stop) => return Err(stop),
     };
@@ -172,15 +217,16 @@ fn ended<A: Allocator>(stream: &Stream<A>) -> Option<TextStop>
 const PIECE: usize = 4_096;
 
 /// Takes the lines of the trace that the input has, which is read in pieces: `None` where all are taken, else the first that
-/// isn't. A line that is none of a trace is then what was wrong.
+/// isn't. It is told after each piece how far it has come.
 ///
 /// `Read` where the input failed, and its count of failures is one more then; `NoMemory` where memory ran out, and the
 /// count stays then, as it does where the trace has ended.
-pub(crate) fn watch_input<A: Allocator + Copy, I: Input>(
+pub(crate) fn watch_input<A: Allocator + Copy, I: Input, P: Progress>(
     alloc: A,
     input: &mut I,
     watch: &mut Watch<A>,
-    wrong: &mut Vec<u8, A>,
+    notes: &mut Notes<A>,
+    progress: &mut P,
 ) -> Result<Option<TextStop>, Fault>
     requires { I.failures input.old + 1 < 2 ^ 64 }
     ensures told { IsInputWatched (I.left input.old) (watched watch.old) (watched watch.new) result }
@@ -189,17 +235,20 @@ pub(crate) fn watch_input<A: Allocator + Copy, I: Input>(
 {
     let mut stream = Stream::new(alloc);
     let mut buffer = [0; PIECE];
+    let mut bytes: u64 = 0;
     'pieces: for _ in 0..u64::MAX {
         let count = match input.read(&mut buffer) {
             Ok(0) => return Ok(ended(&stream)),
             Ok(count) => count,
             Err(Failed) => return Err(Fault::Read),
         };
-        stream = match take_piece(watch, wrong, stream, &buffer[..count]) {
+        bytes = bytes.saturating_add(count as u64);
+        stream = match take_piece(watch, notes, stream, &buffer[..count]) {
             Ok(stream) => stream,
             Err(TextStop::NoMemory) => return Err(Fault::NoMemory),
             Err(stop) => return Ok(Some(stop)),
         };
+        progress.tell(&watch.counts, bytes);
     }
     Err(Fault::NoMemory)
 }

@@ -1,6 +1,6 @@
 //! Short traces, and what is told of them.
 
-use chi_observe::{CreditTypes, WatchOptions, observe};
+use chi_observe::{CreditTypes, Nobody, WatchOptions, observe};
 use chi_script::{Fault, MemoryInput, MemoryOutput};
 
 /// A read, and one flit of another that the home answers while the first holds the line alone.
@@ -23,7 +23,16 @@ const OPTIONS: WatchOptions = WatchOptions {
 fn the_first_flit_that_is_not_taken_is_told(rt: HostRuntime) {
     let mut input = MemoryInput::new(TRACE, u64::MAX);
     let mut output = MemoryOutput::new(rt.alloc(), 4096);
-    let done = observe(rt.alloc(), &mut input, &mut output, OPTIONS, false).is_ok();
+    let done = observe(
+        rt.alloc(),
+        &mut input,
+        &mut output,
+        OPTIONS,
+        false,
+        0,
+        &mut Nobody,
+    )
+    .is_ok();
     assert!(rt; done && output.bytes().starts_with(TOLD));
 }
 
@@ -31,7 +40,15 @@ fn the_first_flit_that_is_not_taken_is_told(rt: HostRuntime) {
 fn an_input_that_fails_is_told_so(rt: HostRuntime) {
     let mut input = MemoryInput::new(TRACE, 0);
     let mut output = MemoryOutput::new(rt.alloc(), 4096);
-    let done = observe(rt.alloc(), &mut input, &mut output, OPTIONS, false);
+    let done = observe(
+        rt.alloc(),
+        &mut input,
+        &mut output,
+        OPTIONS,
+        false,
+        0,
+        &mut Nobody,
+    );
     assert!(rt; matches!(done, Err(Fault::Read)) && output.bytes().is_empty());
 }
 
@@ -39,6 +56,14 @@ fn an_input_that_fails_is_told_so(rt: HostRuntime) {
 fn an_output_that_fails_is_told_so(rt: HostRuntime) {
     let mut input = MemoryInput::new(TRACE, u64::MAX);
     let mut output = MemoryOutput::new(rt.alloc(), 4);
-    let done = observe(rt.alloc(), &mut input, &mut output, OPTIONS, false);
+    let done = observe(
+        rt.alloc(),
+        &mut input,
+        &mut output,
+        OPTIONS,
+        false,
+        0,
+        &mut Nobody,
+    );
     assert!(rt; matches!(done, Err(Fault::Write)) && output.bytes() == b"line".as_slice());
 }

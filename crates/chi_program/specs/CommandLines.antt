@@ -12,7 +12,7 @@ use Rattle.chi_flit.specs.declared.numbers.Line.{Line}
 use Rattle.chi_resolution.specs.declared.ledger.Types.{Types}
 use Rattle.chi_script.specs.Words.{◌>>=◌}
 use Rattle.chi_trace.specs.declared.fields.Address.{Address}
-use Rattle.chi_program.specs.Options.{asked_address_of, commands_option, form_option, is_given, least_option, line_option, rows_option, seed_of, stores_option, turns_of, types_option, watched_types_option, wild_option}
+use Rattle.chi_program.specs.Options.{asked_address_of, commands_option, context_option, form_option, is_given, least_option, line_option, rows_option, seed_of, stores_option, turns_of, types_option, watched_types_option, wild_option}
 use Rattle.chi_program.specs.declared.faults.ArgFault.{ArgFault}
 use Rattle.chi_program.specs.declared.faults.ArgFault.TheVariants.{Bad, NoMemory}
 use Rattle.chi_program.specs.declared.jobs.Job.{Job}
@@ -62,9 +62,9 @@ chart_line = with_rule (with_rule (with_rule (new_app (codes "chart")) file_rule
 abbrev pub explain_line : App
 explain_line = with_rule (with_rule (with_rule (with_rule (with_rule (with_rule (new_app (codes "explain")) file_rule) (option_rule (codes "types"))) (option_rule (codes "stores"))) (flag_rule (codes "early-grants"))) (flag_rule (codes "complete"))) (option_rule (codes "line"))
 
--- `observe FILE [--types T] [--early-grants] [--complete]`
+-- `observe FILE [--types T] [--early-grants] [--complete] [--context N]`
 abbrev pub observe_line : App
-observe_line = with_rule (with_rule (with_rule (with_rule (new_app (codes "observe")) file_rule) (option_rule (codes "types"))) (flag_rule (codes "early-grants"))) (flag_rule (codes "complete"))
+observe_line = with_rule (with_rule (with_rule (with_rule (with_rule (new_app (codes "observe")) file_rule) (option_rule (codes "types"))) (flag_rule (codes "early-grants"))) (flag_rule (codes "complete"))) (option_rule (codes "context"))
 
 -- `storm FILE [--seed N] [--turns N]`
 abbrev pub storm_line : App
@@ -114,7 +114,7 @@ pub data AskedCommand : Type 0 where
   check : List Text → Bool → AskedCommand
   chart : Text → Option Line → RowRange → AskedCommand
   explain : Text → Types → StoreListing → (early complete : Bool) → Option Address → AskedCommand
-  observe : Text → Types → (early complete : Bool) → AskedCommand
+  observe : Text → Types → (early complete : Bool) → (context : ℕ) → AskedCommand
   storm : Text → ℕ → ℕ → AskedCommand
   cover : List Text → (missing : Bool) → CellForm → (merge : Bool) → (least : ℕ) → AskedCommand
   draw : Text → ℕ → ℕ → ℕ → (weights kinds : Option Text) → Bool → AskedCommand
@@ -151,7 +151,8 @@ abbrev pub observe_in : List Row → Option AskedCommand
 observe_in rows = do
   path ← first_of (codes "FILE") rows
   types ← watched_types_option (first_of (codes "types") rows)
-  Some (observe path types (is_given (first_of (codes "early-grants") rows)) (is_given (first_of (codes "complete") rows)))
+  context ← context_option (first_of (codes "context") rows)
+  Some (observe path types (is_given (first_of (codes "early-grants") rows)) (is_given (first_of (codes "complete") rows)) context)
 
 -- behind `storm` stand the path and the options
 abbrev pub storm_asked : List Row → Option AskedCommand
@@ -214,7 +215,7 @@ asked_by (Replay path) = replay path.now
 asked_by (Check paths tap) = check (map (λ path. path.now) paths.items) tap
 asked_by (Chart path only rows) = chart path.now only rows
 asked_by (Explain path types stores early complete only) = explain path.now types stores early complete only
-asked_by (Observe path types early complete) = observe path.now types early complete
+asked_by (Observe path types early complete context) = observe path.now types early complete context
 asked_by (Storm path seed turns) = storm path.now seed turns
 asked_by (Cover paths missing form merge least) = cover (map (λ path. path.now) paths.items) missing form merge least
 asked_by (Draw header seed commands wild weights kinds drain) =

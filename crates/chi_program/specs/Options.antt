@@ -93,3 +93,8 @@ form_option true true = None
 abbrev pub least_option : Option (List ℕ) → Option ℕ
 least_option None = Some 0
 least_option (Some word) = number_of word
+
+-- how many flits of a line are told with a fault is a number of a replay file from 1 to 64, and 0 where none is given
+abbrev pub context_option : Option (List ℕ) → Option ℕ
+context_option None = Some 0
+context_option (Some word) = number_of word >>= λ n. if is_from 1 64 n then Some n else None

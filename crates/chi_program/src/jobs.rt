@@ -7,8 +7,8 @@ ghost use Rattle.chi_program.specs.CommandLines.{IsAsked, IsCommand, asked_behin
 
 use crate::faults::ArgFault;
 use crate::options::{
-    CellForm, RowRange, address, commands, form, is_given, least, only, rows, seed, stores, turns,
-    types, watched_types, wild,
+    CellForm, RowRange, address, commands, context, form, is_given, least, only, rows, seed,
+    stores, turns, types, watched_types, wild,
 };
 use crate::usages::{Topic, topic_of};
 use chi_explain::StoreListing;
@@ -55,8 +55,8 @@ pub enum Job<'a> {
         /// The address of the line whose explanation is written as a check file, where one is given.
         only: Option<Address>,
     },
-    /// `observe FILE [--types two|four|any] [--early-grants] [--complete]`: judges the trace at this path, whatever its home
-    /// and its caches are.
+    /// `observe FILE [--types two|four|any] [--early-grants] [--complete] [--context N]`: judges the trace at this path,
+    /// whatever its home and its caches are.
     Observe {
         path: &'a str,
         /// Which types of credit it has; any where it isn't given.
@@ -65,6 +65,8 @@ pub enum Job<'a> {
         early_grants: bool,
         /// Whether nothing may be open at its end.
         complete: bool,
+        /// How many flits of a line are told with a fault, from 1 to 64; 0 where it isn't given.
+        context: u64,
     },
     /// `storm FILE [--seed N] [--turns N]`: runs the scripts of the file at this path in threads.
     Storm {
@@ -207,6 +209,9 @@ const AT_LEAST: &str = "at-least";
 /// The option that says that nothing may be open at the end of a trace.
 const COMPLETE: &str = "complete";
 
+/// The option that says how many flits of a line are told with a fault.
+const CONTEXT: &str = "context";
+
 /// The option that says how many commands are drawn.
 const COMMANDS: &str = "commands";
 
@@ -293,7 +298,8 @@ fn observe_command<'a>(alloc: Global) -> Result<Command<'a>, AllocError>
         .arg(file(alloc))?
         .arg(option(alloc, TYPES))?
         .arg(flag(alloc, EARLY_GRANTS))?
-        .arg(flag(alloc, COMPLETE))
+        .arg(flag(alloc, COMPLETE))?
+        .arg(option(alloc, CONTEXT))
 }
 
 /// The command line of `storm`.
@@ -479,11 +485,13 @@ fn read_observe<'a>(matches: &ArgMatches<'a>) -> Option<Job<'a>>
     let types = watched_types(text_of(matches, TYPES))?;
     let early_grants = is_given(text_of(matches, EARLY_GRANTS));
     let complete = is_given(text_of(matches, COMPLETE));
+    let context = context(text_of(matches, CONTEXT))?;
     Some(Job::Observe {
         path,
         types,
         early_grants,
         complete,
+        context,
     })
 }
 

@@ -2,7 +2,7 @@
 
 ghost use Rattle.std.specs.Prelude.{◌≡◌, ◌==◌, Some, option_map};
 ghost use Rattle.std.specs.List.{position};
-ghost use Rattle.chi_program.specs.Options.{asked_address_of, commands_option, form_option, is_given, least_option, line_option, range_of, rows_option, seed_of, stores_option, turns_of, types_option, watched_types_option, wild_option};
+ghost use Rattle.chi_program.specs.Options.{asked_address_of, commands_option, context_option, form_option, is_given, least_option, line_option, range_of, rows_option, seed_of, stores_option, turns_of, types_option, watched_types_option, wild_option};
 
 use chi_explain::StoreListing;
 use chi_flit::Line;
@@ -222,6 +222,21 @@ pub fn least(value: Option<&str>) -> Option<u64>
     match value {
         None => Some(0),
         Some(word) => number(word.as_bytes()),
+    }
+}
+
+/// How many flits of a line are told with a fault where `--context` has this value: 0 where it isn't given, and `None`
+/// where the value is no number of a replay file from 1 to 64.
+/// Source: `docs/FORMATS.md`, "The program".
+pub fn context(value: Option<&str>) -> Option<u64>
+    ensures { result ≡ context_option (option_map (λ word. word.now) value.entry) }
+{
+    match value {
+        None => Some(0),
+        Some(word) => match number(word.as_bytes())? {
+            context @ 1..=64 => Some(context),
+            _ => None,
+        },
     }
 }
 

@@ -20,7 +20,7 @@ use crate::usages::{usage, version};
 use chi_chart::{ChartPart, chart};
 use chi_coverage::{CoverForm, CoverShape, cover, merge};
 use chi_flit::Line;
-use chi_observe::{CreditTypes, ObserveOutcome, WatchOptions, observe};
+use chi_observe::{CreditTypes, Nobody, ObserveOutcome, WatchOptions, observe};
 use chi_replay::{SuiteFile, SuiteForm, check, check_suite, replay};
 use chi_resolution::{Options, Types};
 use chi_script::{
@@ -199,12 +199,13 @@ fn work<R: Files + AllocGlobal + Print + Eprint + Threads + Wait + Clock + Sync>
             types,
             early_grants,
             complete,
+            context,
         } => {
             let options = WatchOptions {
                 types: types_watched(types),
                 early_grants,
             };
-            Ok(observe_file(rt, path, options, complete)?)
+            Ok(observe_file(rt, path, options, complete, context)?)
         }
         Job::Storm { path, seed, turns } => Ok(storm_file(rt, path, seed, turns)?),
         Job::Cover {
@@ -731,10 +732,28 @@ fn observe_file<R: Files + AllocGlobal + Print + Eprint>(
     path: &str,
     options: WatchOptions,
     complete: bool,
+    context: u64,
 ) -> Result<End, Fault> {
-    let mut input = FileInput::open(rt, file_of(path))?;
+    let mut input = match FileInput::open(rt, file_of(path)) {
+        Ok(input) => input,
+        Err(Fault::Read) => return tell_unread(rt, path),
+        Err(fault) => return Err(fault),
+    };
     let mut output = StandardOutput::new(io::writer(rt));
-    let report = observe(rt.alloc(), &mut input, &mut output, options, complete)?;
+    let context = context as usize;
+    let report = match observe(
+        rt.alloc(),
+        &mut input,
+        &mut output,
+        options,
+        complete,
+        context,
+        &mut Nobody,
+    ) {
+        Ok(report) => report,
+        Err(Fault::Read) => return tell_unread(rt, path),
+        Err(fault) => return Err(fault),
+    };
     if matches!(report.outcome, ObserveOutcome::Malformed(_)) {
         let _ = rt.eprintln(report.text.as_str());
     }
