@@ -18,7 +18,7 @@ use Rattle.chi_chart.specs.declared.drawn.RowArea.{RowArea}
 use Rattle.chi_chart.specs.declared.drawn.StateMark.{StateMark}
 use Rattle.chi_chart.specs.declared.drawn.Bar.{Bar}
 use Rattle.chi_chart.specs.declared.drawn.Arrow.{Arrow}
-use Rattle.chi_chart.specs.Commands.{command_text}
+use Rattle.chi_script.specs.Spelling.{command_text}
 
 -- the paper, of the whole size
 unfoldable pub paper_text : ℕ → ℕ → List ℕ
@@ -64,7 +64,7 @@ number_text number y = codes "<text class='number' x='44' y='" ++ (decimal y ++ 
 unfoldable pub caption_text : Caption → List ℕ
 caption_text caption =
     codes "<path class='rule' d='M0 " ++ (decimal caption.rule ++ (codes "H" ++ (decimal caption.right
-    ++ (codes "'/>\n<text class='command' x='50' y='" ++ (decimal caption.y ++ (codes "'>" ++ (command_text caption.command.0 ++ (codes "</text>\n" ++ number_text caption.number caption.y))))))))
+    ++ (codes "'/>\n<text class='command' x='50' y='" ++ (decimal caption.y ++ (codes "'>" ++ (command_text caption.command ++ (codes "</text>\n" ++ number_text caption.number caption.y))))))))
 
 -- the state that a copy turns to, left of its agent's lifeline
 unfoldable pub turned_text : StateMark → List ℕ

@@ -3,7 +3,6 @@ pub mod Headings
 pub mod Marks
 pub mod Rows
 pub mod Layout
-pub mod Commands
 pub mod Drawn
 pub mod Notes
 pub mod Style

@@ -126,7 +126,7 @@ unfoldable pub row_head : Layout → ChartRow → List ℕ
 row_head layout row =
     names_if layout row.names row.start
     ++ (headings_text (row.start + names_height row.names) row.headings
-    ++ caption_text (record { rule = row.start; right = home_x layout; y = row.y + 14; command = record { 0 = row.command }; number = row.number }))
+    ++ caption_text (record { rule = row.start; right = home_x layout; y = row.y + 14; command = row.command; number = row.number }))
 
 -- below it what is told of the answer, its marks, and the answer that was wanted
 unfoldable pub row_told : Layout → ℕ → ChartRow → List ChartRow → List ℕ

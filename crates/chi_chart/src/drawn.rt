@@ -4,8 +4,8 @@ ghost use Rattle.std.specs.Prelude.{◌≡◌, ◌++◌, OnOk, Some};
 ghost use Rattle.chi_replay.specs.Replies.{serving_text};
 ghost use Rattle.chi_chart.specs.Drawn.{arrow_text, bar_text, caption_text, differs_text, end_text, escaped_text, escaped_byte, heading_text, legible_byte, legible_text, lifeline_text, name_text, number_text, paper_text, serving_title_text, sheet_text, slice_text, slice_title_text, title_text, turned_text, wanted_text};
 
-use crate::commands::Spelled;
 use chi_flit::{Agent, Channel, Msg, NoMemory, State};
+use chi_script::Command;
 use chi_slice::Serving;
 use std::alloc::Allocator;
 use std::fmt;
@@ -42,7 +42,7 @@ pub(crate) struct Caption {
     pub(crate) rule: u64,
     pub(crate) right: u64,
     pub(crate) y: u64,
-    pub(crate) command: Spelled,
+    pub(crate) command: Command,
     pub(crate) number: u64,
 }
 
@@ -243,7 +243,7 @@ impl fmt::Display for Caption {
     #[tactic(auto, unfolding(crate::specs::Drawn::caption_text))]
     fn fmt<W: fmt::Write>(&self, f: &mut fmt::Formatter<W>) -> fmt::Result {
         let (rule, right, y) = (self.rule, self.right, self.y);
-        let command = &self.command;
+        let command = self.command;
         let number = RowNumber {
             number: self.number,
             y,

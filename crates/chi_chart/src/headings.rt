@@ -1,28 +1,17 @@
 //! The comments of a file, which a chart has as headings.
 
 ghost use Rattle.std.specs.Prelude.{◌≡◌, ◌++◌, IfOk, OnOk, map};
-ghost use Rattle.chi_script.specs.Checks.{is_comment};
 ghost use Rattle.chi_script.specs.Files.{lines_of};
 ghost use Rattle.chi_chart.specs.Headings.{heading_of, headings_in, lines_behind};
 
 use chi_flit::NoMemory;
-use chi_script::first_line;
+use chi_script::{first_line, is_comment};
 use std::alloc::Allocator;
 
 /// The lines of a file that are left.
 #[derive(Clone, Copy)]
 pub(crate) struct LeftLines<'a> {
     pub(crate) bytes: &'a [u8],
-}
-
-/// Whether the line is a comment.
-fn is_comment(line: &[u8]) -> bool
-    ensures { result ≡ is_comment line.now }
-{
-    match line {
-        [] => true,
-        [first, ..] => *first == b'#',
-    }
 }
 
 /// Puts what a comment says behind the headings.

@@ -4,7 +4,6 @@
 #![tactic(auto)]
 
 mod charts;
-mod commands;
 mod drawn;
 mod frame;
 mod headings;

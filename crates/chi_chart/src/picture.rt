@@ -6,7 +6,6 @@ ghost use Rattle.chi_chart.specs.Picture.{difference_text, frame_text, head_text
 ghost use Rattle.chi_chart.specs.Drawn.{title_text};
 ghost use Rattle.chi_chart.specs.Played.{row_seen};
 
-use crate::commands::Spelled;
 use crate::drawn::{
     Arrow, Bar, Caption, Lifeline, RowArea, Sheet, SliceBox, StateMark, Title, add_heading,
     add_wanted,
@@ -341,7 +340,7 @@ impl<A: Allocator> Picture<A> {
             rule: u64::from(row.start),
             right: self.layout.home_x(),
             y: u64::from(row.y) + 14,
-            command: Spelled(row.command),
+            command: row.command,
             number: row.number,
         };
         write!(self.text, "{caption}").map_err(|_| NoMemory)

@@ -3,9 +3,10 @@ use Rattle.std.proofs.Common.{◌≡◌, ℕ, ◌==◌, Bool, true, false, List,
 use Rattle.std.proofs.lemmas.Bool.Decides.{nat_tests}
 use Rattle.chi_script.specs.declared.commands.Command.{Command}
 use Rattle.chi_script.specs.declared.headers.Header.{Header}
-use Rattle.chi_script.specs.Commands.{command_of, verb_step}
+use Rattle.chi_script.specs.Commands.{command_of}
+use Rattle.chi_script.specs.Verbs.{verb_named}
 use Rattle.chi_script.specs.Spelling.{IsHeaderLine}
-use Rattle.chi_script.specs.Words.{◌>>=◌, small_of, words_of}
+use Rattle.chi_script.specs.Words.{◌>>=◌, words_of}
 use Rattle.chi_script.proofs.CommandLemmas.{line_again, line_read}
 use Rattle.chi_script.proofs.LineLemmas.{parts_of as cut}
 use Rattle.chi_script.proofs.NumberLemmas.{bound}
@@ -36,26 +37,17 @@ check_again n line check is =
     ∙ (ap (λ (o : Option Command). o >>= λ command. Some (made n check.wanted command)) (line_again is.front check.command is.command)
     ∙ ap (λ (l : ℕ). Some (made l check.wanted check.command)) (sym is.number)))
 
--- no word of a command begins with #
-nothing : {A B : Type 0} (o : Option A) → ◌≡◌ {A = Option B} (o >>= λ _. None) None
-nothing None = refl
-nothing (Some x) = refl
+-- no verb begins with #
+hash_named : (w : List ℕ) → verb_named (35 ∷ w) ≡ None
+unfolding verb_named
+hash_named w = refl
 
-nothing_two : {A B C : Type 0} (o : Option A) (p : Option B) → ◌≡◌ {A = Option C} (o >>= λ _. p >>= λ _. None) None
-nothing_two None p = refl
-nothing_two (Some x) p = nothing p
-
-hash_bare : (w : List ℕ) (words : List (List ℕ)) → command_of ((35 ∷ w) ∷ words) ≡ None
-unfolding verb_step
-hash_bare w [] = refl
-hash_bare w (a ∷ []) = nothing (small_of a)
-hash_bare w (a ∷ b ∷ []) = nothing_two (small_of a) (small_of b)
-hash_bare w (a ∷ b ∷ c ∷ []) = refl
-hash_bare w (a ∷ b ∷ c ∷ d ∷ []) = refl
-hash_bare w (a ∷ b ∷ c ∷ d ∷ more ∷ rest) = refl
+empty_none : command_of (words_of []) ≡ None
+unfolding verb_named
+empty_none = refl
 
 hash_none : (bs : List ℕ) → command_of (words_of (35 ∷ bs)) ≡ None
-hash_none bs = let parts = cut (λ b. b == 32) bs in rw parts.2 (hash_bare parts.0 parts.1)
+hash_none bs = let parts = cut (λ b. b == 32) bs in rw (parts.2, hash_named parts.0) refl
 
 is_hash : (b : ℕ) → (b == 35) ≡ true → b ≡ 35
 is_hash b e = grind (arith, nat_tests)
@@ -68,7 +60,7 @@ no_hash false b bs command is e = refl
 no_hash true b bs command is e = absurd (none_some (command_of (words_of (b ∷ bs))) command (ap (λ (x : ℕ). command_of (words_of (x ∷ bs))) (is_hash b is) ∙ hash_none bs) e)
 
 pub command_no_comment : (line : List ℕ) (command : Command) → command_of (words_of line) ≡ Some command → is_comment line ≡ false
-command_no_comment [] command e = cc
+command_no_comment [] command e = absurd (none_some (command_of (words_of [])) command empty_none e)
 command_no_comment (b ∷ bs) command e = no_hash (b == 35) b bs command refl e
 
 same_front : (front : List ℕ) (wanted : Option (List ℕ)) → is_comment front ≡ false → is_comment (with_answer front wanted) ≡ false

@@ -34,7 +34,7 @@ pub record AreDigits (n : ℕ) (ds : List ℕ) (m : ℕ) : Type 0 where
   pub value_is : m ≡ value n ds
   pub fits : m < 2 ^ 64
 
-and_true : (a b : Bool) → a ≡ true → b ≡ true → (a && b) ≡ true
+pub and_true : (a b : Bool) → a ≡ true → b ≡ true → (a && b) ≡ true
 and_true a b x y = rw (x, y) refl
 
 pub bound : {A B : Type 0} (step : Option A) (next : A → Option B) (y : B) → (step >>= next) ≡ Some y → (x : A) × (step ≡ Some x) × (next x ≡ Some y)

@@ -1,6 +1,7 @@
--- The commands of a replay file: a table for each count of words, a line for each command
+-- The commands of a replay file: a table for each count of words, a line for each verb
 -- (docs/FORMATS.md, "Replay files").
-use Rattle.std.specs.Prelude.{ℕ, List, [], ◌∷◌, Option, Some, None, if◌then◌else◌, codes}
+use Rattle.std.specs.Prelude.{ℕ, List, [], ◌∷◌, Option, Some, None}
+use Rattle.std.specs.List.{find}
 use Rattle.chi_flit.specs.Numbers.{agent_at, line_at, slot_at, word_at, credit_of}
 use Rattle.chi_flit.specs.Kind.{kind_text}
 use Rattle.chi_flit.specs.declared.kind.Kind.{Kind}
@@ -9,82 +10,86 @@ use Rattle.chi_flit.specs.declared.action.Step.{Step}
 use Rattle.chi_flit.specs.declared.action.Step.TheVariants.{Load, Store, Drop, Issue, RecvRetry, Resend, Cancel, Start, RecvSnp, RecvSnpResp, RecvData, RecvComp, RecvAck, RecvDbid, RecvWrData}
 use Rattle.chi_script.specs.declared.commands.Command.{Command}
 use Rattle.chi_script.specs.declared.commands.Command.TheVariants.{Totals, Audit, Show, Flits, Arrive, See, GiveBack, Tend, Act}
+use Rattle.chi_script.specs.declared.verbs.Verb.{Verb}
+use Rattle.chi_script.specs.declared.verbs.Verb.TheVariants as verbs
+use Rattle.chi_script.specs.Verbs.{verb_named}
 use Rattle.chi_script.specs.Words.{◌>>=◌, is_text, number_of, small_of, words_of}
 
 -- one step of an agent on a line
 abbrev pub act_at : ℕ → ℕ → Step → Command
 act_at n l step = Act (record { agent = agent_at n; line = line_at l; step = step })
 
+-- all kinds of request
+abbrev pub all_kinds : List Kind
+all_kinds = ReadNotSharedDirty ∷ ReadShared ∷ ReadUnique ∷ CleanUnique ∷ Evict ∷ WriteBackFull ∷ WriteCleanFull ∷ WriteEvictFull ∷ []
+
+-- the kind of a name
 unfoldable pub kind_named : List ℕ → Option Kind
-kind_named word =
-    if is_text word (kind_text ReadNotSharedDirty) then Some ReadNotSharedDirty else (
-    if is_text word (kind_text ReadShared) then Some ReadShared else (
-    if is_text word (kind_text ReadUnique) then Some ReadUnique else (
-    if is_text word (kind_text CleanUnique) then Some CleanUnique else (
-    if is_text word (kind_text Evict) then Some Evict else (
-    if is_text word (kind_text WriteBackFull) then Some WriteBackFull else (
-    if is_text word (kind_text WriteCleanFull) then Some WriteCleanFull else (
-    if is_text word (kind_text WriteEvictFull) then Some WriteEvictFull else None)))))))
+kind_named word = find (λ kind. is_text word (kind_text kind)) all_kinds
 
 -- the step of VERB N L
-unfoldable pub verb_step : List ℕ → Option Step
-verb_step verb =
-    if is_text verb (codes "drop") then Some Drop else (
-    if is_text verb (codes "start") then Some Start else (
-    if is_text verb (codes "snp") then Some RecvSnp else (
-    if is_text verb (codes "snpresp") then Some RecvSnpResp else (
-    if is_text verb (codes "retryack") then Some RecvRetry else (
-    if is_text verb (codes "resend") then Some Resend else (
-    if is_text verb (codes "cancel") then Some Cancel else (
-    if is_text verb (codes "data") then Some RecvData else (
-    if is_text verb (codes "comp") then Some RecvComp else (
-    if is_text verb (codes "ack") then Some RecvAck else (
-    if is_text verb (codes "dbid") then Some RecvDbid else (
-    if is_text verb (codes "wrdata") then Some RecvWrData else None)))))))))))
+abbrev pub verb_step : Verb → Option Step
+verb_step verbs.Drop = Some Drop
+verb_step verbs.Start = Some Start
+verb_step verbs.Snp = Some RecvSnp
+verb_step verbs.SnpResp = Some RecvSnpResp
+verb_step verbs.RetryAck = Some RecvRetry
+verb_step verbs.Resend = Some Resend
+verb_step verbs.Cancel = Some Cancel
+verb_step verbs.Data = Some RecvData
+verb_step verbs.Comp = Some RecvComp
+verb_step verbs.Ack = Some RecvAck
+verb_step verbs.Dbid = Some RecvDbid
+verb_step verbs.WrData = Some RecvWrData
+verb_step other = None
 
 -- the step of VERB N L and a word
-abbrev pub step_with_one : List ℕ → List ℕ → Option Step
-step_with_one verb third =
-    if is_text verb (codes "load") then (small_of third >>= λ w. Some (Load (word_at w))) else None
+abbrev pub step_with_one : Verb → List ℕ → Option Step
+step_with_one verbs.Load third = small_of third >>= λ w. Some (Load (word_at w))
+step_with_one other third = None
 
 -- the step of VERB N L and two words; a value is no small number
-abbrev pub step_with_two : List ℕ → List ℕ → List ℕ → Option Step
-step_with_two verb third fourth =
-    if is_text verb (codes "store") then (small_of third >>= λ w. number_of fourth >>= λ v. Some (Store (word_at w) v)) else (
-    if is_text verb (codes "issue") then (kind_named third >>= λ kind. small_of fourth >>= λ slot. Some (Issue kind (slot_at slot))) else None)
+abbrev pub step_with_two : Verb → List ℕ → List ℕ → Option Step
+step_with_two verbs.Store third fourth = small_of third >>= λ w. number_of fourth >>= λ v. Some (Store (word_at w) v)
+step_with_two verbs.Issue third fourth = kind_named third >>= λ kind. small_of fourth >>= λ slot. Some (Issue kind (slot_at slot))
+step_with_two other third fourth = None
 
 -- VERB
-abbrev pub command_bare : List ℕ → Option Command
-command_bare verb =
-    if is_text verb (codes "totals") then Some Totals else (
-    if is_text verb (codes "audit") then Some Audit else None)
+abbrev pub command_bare : Verb → Option Command
+command_bare verbs.Totals = Some Totals
+command_bare verbs.Audit = Some Audit
+command_bare other = None
 
 -- VERB L, or VERB N
-abbrev pub command_one : List ℕ → ℕ → Option Command
-command_one verb n =
-    if is_text verb (codes "show") then Some (Show (line_at n)) else (
-    if is_text verb (codes "see") then Some (See (agent_at n)) else None)
+abbrev pub command_one : Verb → ℕ → Option Command
+command_one verbs.Show n = Some (Show (line_at n))
+command_one verbs.See n = Some (See (agent_at n))
+command_one other n = None
 
 -- VERB N L, or VERB N TYPE
-abbrev pub command_two : List ℕ → ℕ → ℕ → Option Command
-command_two verb n l =
-    if is_text verb (codes "arrive") then Some (Arrive (agent_at n) (line_at l)) else (
-    if is_text verb (codes "flits") then Some (Flits (agent_at n) (line_at l)) else (
-    if is_text verb (codes "giveback") then Some (GiveBack (agent_at n) (credit_of l)) else (
-    if is_text verb (codes "tend") then Some (Tend (agent_at n) (credit_of l)) else
-    (verb_step verb >>= λ step. Some (act_at n l step)))))
+abbrev pub command_two : Verb → ℕ → ℕ → Option Command
+command_two verbs.Arrive n l = Some (Arrive (agent_at n) (line_at l))
+command_two verbs.Flits n l = Some (Flits (agent_at n) (line_at l))
+command_two verbs.GiveBack n l = Some (GiveBack (agent_at n) (credit_of l))
+command_two verbs.Tend n l = Some (Tend (agent_at n) (credit_of l))
+command_two other n l = verb_step other >>= λ step. Some (act_at n l step)
 
 -- VERB N L and what makes it this step
 abbrev pub command_step : List ℕ → List ℕ → Step → Option Command
 command_step a b step = small_of a >>= λ n. small_of b >>= λ l. Some (act_at n l step)
 
+-- the command of a verb and the words behind it
+abbrev pub command_with : Verb → List (List ℕ) → Option Command
+command_with verb [] = command_bare verb
+command_with verb (a ∷ []) = small_of a >>= λ n. command_one verb n
+command_with verb (a ∷ b ∷ []) = small_of a >>= λ n. small_of b >>= λ l. command_two verb n l
+command_with verb (a ∷ b ∷ c ∷ []) = step_with_one verb c >>= λ step. command_step a b step
+command_with verb (a ∷ b ∷ c ∷ d ∷ []) = step_with_two verb c d >>= λ step. command_step a b step
+command_with verb other = None
+
 abbrev pub command_of : List (List ℕ) → Option Command
-command_of (verb ∷ []) = command_bare verb
-command_of (verb ∷ a ∷ []) = small_of a >>= λ n. command_one verb n
-command_of (verb ∷ a ∷ b ∷ []) = small_of a >>= λ n. small_of b >>= λ l. command_two verb n l
-command_of (verb ∷ a ∷ b ∷ c ∷ []) = step_with_one verb c >>= λ step. command_step a b step
-command_of (verb ∷ a ∷ b ∷ c ∷ d ∷ []) = step_with_two verb c d >>= λ step. command_step a b step
-command_of _ = None
+command_of [] = None
+command_of (word ∷ words) = verb_named word >>= λ verb. command_with verb words
 
 -- the command that a line is
 abbrev pub line_command : List ℕ → Option Command

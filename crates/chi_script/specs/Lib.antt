@@ -1,4 +1,5 @@
 pub mod Words
+pub mod Verbs
 pub mod Commands
 pub mod Headers
 pub mod Faults

@@ -1,9 +1,9 @@
 -- How numbers, commands and headers are written (docs/FORMATS.md, "Replay files"): apart from how they
 -- are read.
-use Rattle.std.specs.Prelude.{◌≡◌, ℕ, ◌^◌, ◌<◌, min, List, [], ◌∷◌, Option, Some, None, Result, Ok, codes, slice_index, true}
+use Rattle.std.specs.Prelude.{◌≡◌, ℕ, ◌^◌, ◌<◌, min, List, [], ◌∷◌, Option, Some, None, Result, Ok, codes, map, slice_index, true}
 use Rattle.std.specs.List.{join_with_byte}
 use Rattle.std.specs.Fmt.{decimal}
-use Rattle.chi_flit.specs.Credit.{credit_number}
+use Rattle.chi_flit.specs.Credit.{credit_number, credit_text}
 use Rattle.chi_flit.specs.Kind.{kind_text}
 use Rattle.chi_flit.specs.declared.kind.Kind.{Kind}
 use Rattle.chi_flit.specs.declared.action.Step.{Step}
@@ -14,6 +14,10 @@ use Rattle.chi_flit.specs.declared.credit.Profile.TheVariants.{Two, Four}
 use Rattle.chi_script.specs.declared.headers.Header.{Header}
 use Rattle.chi_script.specs.declared.faults.Fault.{Fault}
 use Rattle.chi_script.specs.Headers.{is_in_limits}
+use Rattle.chi_script.specs.Commands.{line_command}
+use Rattle.chi_script.specs.Verbs.{verb_text}
+use Rattle.chi_script.specs.declared.verbs.Verb.{Verb}
+use Rattle.chi_script.specs.declared.verbs.Verb.TheVariants as verbs
 use Rattle.chi_script.specs.declared.commands.Command.{Command}
 use Rattle.chi_script.specs.declared.commands.Command.TheVariants.{Totals, Audit, Show, Flits, Arrive, See, GiveBack, Tend, Act}
 
@@ -34,69 +38,130 @@ abbrev pub IsCredit : Option CreditType → List ℕ → Type 0
 IsCredit (Some ty) word = IsNumber (credit_number ty) word
 IsCredit None word = (written : ℕ) × IsNumber written word × (3 < written)
 
--- VERB L, or VERB N
-abbrev pub WithOne : List ℕ → ℕ → List (List ℕ) → Type 0
-WithOne verb n words = (first : List ℕ) × IsSmall n first × (words ≡ verb ∷ first ∷ [])
+-- What stands behind a verb: an agent, a line, a word, a slot; a value; a kind of request; a credit type.
+pub data Operand : Type 0 where
+  Small : ℕ → Operand
+  Value : ℕ → Operand
+  OfKind : Kind → Operand
+  OfType : Option CreditType → Operand
 
--- VERB N L
-abbrev pub WithTwo : List ℕ → ℕ → ℕ → List (List ℕ) → Type 0
-WithTwo verb n l words = (agent line : List ℕ) × IsSmall n agent × IsSmall l line × (words ≡ verb ∷ agent ∷ line ∷ [])
+-- what stands behind the agent and the line of a step
+abbrev pub step_operands : Step → List Operand
+step_operands (Load w) = Small w.0 ∷ []
+step_operands (Store w v) = Small w.0 ∷ Value v ∷ []
+step_operands (Issue kind slot) = OfKind kind ∷ Small slot.0 ∷ []
+step_operands other = []
 
--- VERB N TYPE
-abbrev pub WithCredit : List ℕ → ℕ → Option CreditType → List (List ℕ) → Type 0
-WithCredit verb n credit words = (agent ty : List ℕ) × IsSmall n agent × IsCredit credit ty × (words ≡ verb ∷ agent ∷ ty ∷ [])
+-- the verb of a step; those that no file asks for have none
+abbrev pub step_verb : Step → Option Verb
+step_verb (Load w) = Some verbs.Load
+step_verb (Store w v) = Some verbs.Store
+step_verb Drop = Some verbs.Drop
+step_verb (Issue kind slot) = Some verbs.Issue
+step_verb Admit = None
+step_verb Retry = None
+step_verb RecvRetry = Some verbs.RetryAck
+step_verb Resend = Some verbs.Resend
+step_verb Cancel = Some verbs.Cancel
+step_verb Start = Some verbs.Start
+step_verb RecvSnp = Some verbs.Snp
+step_verb RecvSnpResp = Some verbs.SnpResp
+step_verb RecvData = Some verbs.Data
+step_verb RecvComp = Some verbs.Comp
+step_verb RecvAck = Some verbs.Ack
+step_verb RecvDbid = Some verbs.Dbid
+step_verb RecvWrData = Some verbs.WrData
 
--- VERB N L W
-abbrev pub WithWord : List ℕ → ℕ → ℕ → ℕ → List (List ℕ) → Type 0
-WithWord verb n l w words = (agent line word : List ℕ) × IsSmall n agent × IsSmall l line × IsSmall w word × (words ≡ verb ∷ agent ∷ line ∷ word ∷ [])
+-- the verb of a command, and what stands behind it
+abbrev pub command_verb : Command → Option Verb
+command_verb Totals = Some verbs.Totals
+command_verb Audit = Some verbs.Audit
+command_verb (Show l) = Some verbs.Show
+command_verb (Flits n l) = Some verbs.Flits
+command_verb (Arrive n l) = Some verbs.Arrive
+command_verb (See n) = Some verbs.See
+command_verb (GiveBack n credit) = Some verbs.GiveBack
+command_verb (Tend n credit) = Some verbs.Tend
+command_verb (Act action) = step_verb action.step
 
--- VERB N L W V
-abbrev pub WithValue : List ℕ → ℕ → ℕ → ℕ → ℕ → List (List ℕ) → Type 0
-WithValue verb n l w v words =
-    (agent line word value : List ℕ) × IsSmall n agent × IsSmall l line × IsSmall w word × IsNumber v value
-    × (words ≡ verb ∷ agent ∷ line ∷ word ∷ value ∷ [])
+abbrev pub operands_of : Command → List Operand
+operands_of Totals = []
+operands_of Audit = []
+operands_of (Show l) = Small l.0 ∷ []
+operands_of (Flits n l) = Small n.0 ∷ Small l.0 ∷ []
+operands_of (Arrive n l) = Small n.0 ∷ Small l.0 ∷ []
+operands_of (See n) = Small n.0 ∷ []
+operands_of (GiveBack n credit) = Small n.0 ∷ OfType credit ∷ []
+operands_of (Tend n credit) = Small n.0 ∷ OfType credit ∷ []
+operands_of (Act action) = Small action.agent.0 ∷ Small action.line.0 ∷ step_operands action.step
 
--- VERB N L KIND SLOT
-abbrev pub WithKind : List ℕ → ℕ → ℕ → Kind → ℕ → List (List ℕ) → Type 0
-WithKind verb n l kind s words =
-    (agent line name slot : List ℕ) × IsSmall n agent × IsSmall l line × IsKind kind name × IsSmall s slot
-    × (words ≡ verb ∷ agent ∷ line ∷ name ∷ slot ∷ [])
+-- a word that says an operand
+abbrev pub IsOperand : Operand → List ℕ → Type 0
+IsOperand (Small n) word = IsSmall n word
+IsOperand (Value n) word = IsNumber n word
+IsOperand (OfKind kind) word = IsKind kind word
+IsOperand (OfType credit) word = IsCredit credit word
 
--- the words of each step of an agent on a line; those that no file asks for have none
-abbrev pub SpellsStep : Step → ℕ → ℕ → List (List ℕ) → Type 0
-SpellsStep (Load w) n l words = WithWord (codes "load") n l w.0 words
-SpellsStep (Store w v) n l words = WithValue (codes "store") n l w.0 v words
-SpellsStep Drop n l words = WithTwo (codes "drop") n l words
-SpellsStep (Issue kind slot) n l words = WithKind (codes "issue") n l kind slot.0 words
-SpellsStep Admit n l words = ⊥
-SpellsStep Retry n l words = ⊥
-SpellsStep RecvRetry n l words = WithTwo (codes "retryack") n l words
-SpellsStep Resend n l words = WithTwo (codes "resend") n l words
-SpellsStep Cancel n l words = WithTwo (codes "cancel") n l words
-SpellsStep Start n l words = WithTwo (codes "start") n l words
-SpellsStep RecvSnp n l words = WithTwo (codes "snp") n l words
-SpellsStep RecvSnpResp n l words = WithTwo (codes "snpresp") n l words
-SpellsStep RecvData n l words = WithTwo (codes "data") n l words
-SpellsStep RecvComp n l words = WithTwo (codes "comp") n l words
-SpellsStep RecvAck n l words = WithTwo (codes "ack") n l words
-SpellsStep RecvDbid n l words = WithTwo (codes "dbid") n l words
-SpellsStep RecvWrData n l words = WithTwo (codes "wrdata") n l words
+-- words that say operands, one each
+abbrev pub AreOperands : List Operand → List (List ℕ) → Type 0
+AreOperands [] [] = Unit {0}
+AreOperands [] (word ∷ words) = ⊥
+AreOperands (operand ∷ operands) [] = ⊥
+AreOperands (operand ∷ operands) (word ∷ words) = IsOperand operand word × AreOperands operands words
 
--- the words of each command
+-- the words of a command: its verb, and its operands behind it
+abbrev pub SpellsWith : Option Verb → List Operand → List (List ℕ) → Type 0
+SpellsWith None operands words = ⊥
+SpellsWith (Some verb) operands [] = ⊥
+SpellsWith (Some verb) operands (word ∷ words) = (word ≡ verb_text verb) × AreOperands operands words
+
 abbrev pub Spells : Command → List (List ℕ) → Type 0
-Spells Totals words = words ≡ codes "totals" ∷ []
-Spells Audit words = words ≡ codes "audit" ∷ []
-Spells (Show l) words = WithOne (codes "show") l.0 words
-Spells (Flits n l) words = WithTwo (codes "flits") n.0 l.0 words
-Spells (Arrive n l) words = WithTwo (codes "arrive") n.0 l.0 words
-Spells (See n) words = WithOne (codes "see") n.0 words
-Spells (GiveBack n credit) words = WithCredit (codes "giveback") n.0 credit words
-Spells (Tend n credit) words = WithCredit (codes "tend") n.0 credit words
-Spells (Act action) words = SpellsStep action.step action.agent.0 action.line.0 words
+Spells command words = SpellsWith (command_verb command) (operands_of command) words
 
 -- the words with one space between two of them
 abbrev pub IsLine : Command → List ℕ → Type 0
 IsLine command line = (words : List (List ℕ)) × Spells command words × (line ≡ join_with_byte 32 words)
+
+-- the word of an operand that is printed; where a credit type is none it is 4
+abbrev pub type_text : Option CreditType → List ℕ
+type_text (Some ty) = credit_text ty
+type_text None = codes "4"
+
+abbrev pub operand_text : Operand → List ℕ
+operand_text (Small n) = decimal n
+operand_text (Value n) = decimal n
+operand_text (OfKind kind) = kind_text kind
+operand_text (OfType credit) = type_text credit
+
+-- the words of a command that is printed, and its line
+abbrev pub words_with : Option Verb → List Operand → List (List ℕ)
+words_with None operands = []
+words_with (Some verb) operands = verb_text verb ∷ map operand_text operands
+
+abbrev pub command_text : Command → List ℕ
+command_text command = join_with_byte 32 (words_with (command_verb command) (operands_of command))
+
+-- the numbers of operands are those of their types
+abbrev pub Fits : Operand → Type 0
+Fits (Small n) = n < 2 ^ 8
+Fits (Value n) = n < 2 ^ 64
+Fits (OfKind kind) = Unit {0}
+Fits (OfType credit) = Unit {0}
+
+abbrev pub AllFit : List Operand → Type 0
+AllFit [] = Unit {0}
+AllFit (operand ∷ operands) = Fits operand × AllFit operands
+
+-- a command that a file may have: it has a verb, and its numbers are those of their types
+pub record IsOfFile (command : Command) : Type 0 where
+  pub verb : Verb
+  pub named : command_verb command ≡ Some verb
+  pub fit : AllFit (operands_of command)
+
+-- a printed command is one of its lines, and is read as that command
+pub record IsReadAgain (command : Command) : Type 0 where
+  pub line : IsLine command (command_text command)
+  pub again : line_command (command_text command) ≡ Some command
 
 -- the words of the credit types and the journal, by profile
 abbrev pub type_words : Profile → List ℕ → ℕ → List (List ℕ)

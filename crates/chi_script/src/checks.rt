@@ -25,7 +25,7 @@ const ARROW: &[u8] = b" -> ";
 
 /// Whether the line, which is given without its line end, is a comment: it has no bytes, or begins with `#`.
 /// Source: `docs/FORMATS.md`, "Check files".
-pub(crate) fn is_comment(line: &[u8]) -> bool
+pub fn is_comment(line: &[u8]) -> bool
     ensures { result ≡ is_comment line.now }
 {
     match line {

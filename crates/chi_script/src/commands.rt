@@ -2,12 +2,12 @@
 
 ghost use Rattle.std.specs.Prelude.{◌≡◌, ◌≢◌, ◌∷◌, IfSome};
 ghost use Rattle.chi_script.specs.Words.{words_of};
-ghost use Rattle.chi_flit.specs.Numbers.{credit_of};
-ghost use Rattle.chi_script.specs.Commands.{command_of, command_bare, command_one, command_two, command_step, act_at, verb_step, step_with_one, step_with_two, kind_named};
+ghost use Rattle.chi_script.specs.Commands.{command_of, command_bare, command_one, command_two, command_step, command_with, act_at, verb_step, step_with_one, step_with_two, kind_named};
 
 use crate::numbers::{number, small};
 use crate::requester_actions::RequesterAction;
 use crate::usual_lines::usual_command;
+use crate::verbs::Verb;
 use crate::words::{first_argument, first_word, is};
 use chi_flit::{Action, Agent, CreditType, Kind, Line, Slot, Step, WordNo};
 
@@ -71,14 +71,14 @@ fn worded_command(line: &[u8]) -> Option<Command>
     ensures { result ≡ command_of (words_of line.now) }
 {
     match first_word(line) {
-        None => bare(line),
-        Some((verb, rest)) => after_one(verb, rest),
+        None => bare(Verb::named(line)?),
+        Some((word, rest)) => after_one(Verb::named(word)?, rest),
     }
 }
 
 /// The command of a verb and what stands behind it.
-pub(crate) fn after_one(verb: &[u8], rest: &[u8]) -> Option<Command>
-    ensures { result ≡ command_of (verb.now ∷ words_of rest.now) }
+pub(crate) fn after_one(verb: Verb, rest: &[u8]) -> Option<Command>
+    ensures { result ≡ command_with verb (words_of rest.now) }
 {
     match first_argument(rest) {
         None => with_one(verb, small(rest)?),
@@ -87,8 +87,8 @@ pub(crate) fn after_one(verb: &[u8], rest: &[u8]) -> Option<Command>
 }
 
 /// The command of a verb, a word and what stands behind them.
-fn after_two(verb: &[u8], first: &[u8], rest: &[u8]) -> Option<Command>
-    ensures { result ≡ command_of (verb.now ∷ first.now ∷ words_of rest.now) }
+fn after_two(verb: Verb, first: &[u8], rest: &[u8]) -> Option<Command>
+    ensures { result ≡ command_with verb (first.now ∷ words_of rest.now) }
 {
     match first_argument(rest) {
         None => with_two(verb, small(first)?, small(rest)?),
@@ -97,8 +97,8 @@ fn after_two(verb: &[u8], first: &[u8], rest: &[u8]) -> Option<Command>
 }
 
 /// The command of a verb, two words and what stands behind them.
-fn after_three(verb: &[u8], first: &[u8], second: &[u8], rest: &[u8]) -> Option<Command>
-    ensures { result ≡ command_of (verb.now ∷ first.now ∷ second.now ∷ words_of rest.now) }
+fn after_three(verb: Verb, first: &[u8], second: &[u8], rest: &[u8]) -> Option<Command>
+    ensures { result ≡ command_with verb (first.now ∷ second.now ∷ words_of rest.now) }
 {
     match first_argument(rest) {
         None => command_of_step(first, second, step_with_one(verb, rest)?),
@@ -107,15 +107,9 @@ fn after_three(verb: &[u8], first: &[u8], second: &[u8], rest: &[u8]) -> Option<
 }
 
 /// The command of a verb, three words and what stands behind them, which is one word more.
-fn after_four(
-    verb: &[u8],
-    first: &[u8],
-    second: &[u8],
-    third: &[u8],
-    rest: &[u8],
-) -> Option<Command>
-    ensures { result ≡ command_of
-        (verb.now ∷ first.now ∷ second.now ∷ third.now ∷ words_of rest.now) }
+fn after_four(verb: Verb, first: &[u8], second: &[u8], third: &[u8], rest: &[u8]) -> Option<Command>
+    ensures { result ≡ command_with verb
+        (first.now ∷ second.now ∷ third.now ∷ words_of rest.now) }
 {
     match first_argument(rest) {
         None => command_of_step(first, second, step_with_two(verb, third, rest)?),
@@ -124,64 +118,49 @@ fn after_four(
 }
 
 /// `VERB`
-fn bare(verb: &[u8]) -> Option<Command>
-    ensures { result ≡ command_bare verb.now }
+fn bare(verb: Verb) -> Option<Command>
+    ensures { result ≡ command_bare verb }
 {
-    if is(verb, "totals") {
-        Some(Command::Totals)
-    } else if is(verb, "audit") {
-        Some(Command::Audit)
-    } else {
-        None
+    match verb {
+        Verb::Totals => Some(Command::Totals),
+        Verb::Audit => Some(Command::Audit),
+        _ => None,
     }
 }
 
 /// `VERB L`, or `VERB N`
-fn with_one(verb: &[u8], first: u8) -> Option<Command>
-    ensures { result ≡ command_one verb.now first }
+#[inline(always)]
+pub(crate) fn with_one(verb: Verb, first: u8) -> Option<Command>
+    ensures { result ≡ command_one verb first }
 {
-    if is(verb, "show") {
-        let line = Line(first);
-        Some(Command::Show { line })
-    } else if is(verb, "see") {
-        let agent = Agent(first);
-        Some(Command::See { agent })
-    } else {
-        None
+    match verb {
+        Verb::Show => Some(Command::Show { line: Line(first) }),
+        Verb::See => Some(Command::See {
+            agent: Agent(first),
+        }),
+        _ => None,
     }
 }
 
 /// `VERB N L`, or `VERB N TYPE`
-fn with_two(verb: &[u8], first: u8, second: u8) -> Option<Command>
-    ensures { result ≡ command_two verb.now first second }
+#[inline(always)]
+pub(crate) fn with_two(verb: Verb, first: u8, second: u8) -> Option<Command>
+    ensures { result ≡ command_two verb first second }
 {
     let agent = Agent(first);
     let line = Line(second);
-    if is(verb, "arrive") {
-        Some(Command::Arrive { agent, line })
-    } else if is(verb, "flits") {
-        Some(Command::Flits { agent, line })
-    } else if is(verb, "giveback") {
-        let credit = credit_at(second);
-        Some(Command::GiveBack { agent, credit })
-    } else if is(verb, "tend") {
-        let credit = credit_at(second);
-        Some(Command::Tend { agent, credit })
-    } else {
-        Some(act(first, second, step_of(verb)?))
-    }
-}
-
-/// The credit type of this number.
-fn credit_at(number: u8) -> Option<CreditType>
-    ensures { result ≡ credit_of number }
-{
-    match number {
-        0 => Some(CreditType::T0),
-        1 => Some(CreditType::T1),
-        2 => Some(CreditType::T2),
-        3 => Some(CreditType::T3),
-        _ => None,
+    match verb {
+        Verb::Arrive => Some(Command::Arrive { agent, line }),
+        Verb::Flits => Some(Command::Flits { agent, line }),
+        Verb::GiveBack => {
+            let credit = CreditType::numbered(second);
+            Some(Command::GiveBack { agent, credit })
+        }
+        Verb::Tend => {
+            let credit = CreditType::numbered(second);
+            Some(Command::Tend { agent, credit })
+        }
+        _ => Some(act(first, second, step_of(verb)?)),
     }
 }
 
@@ -195,7 +174,7 @@ fn command_of_step(first: &[u8], second: &[u8], step: Step) -> Option<Command>
 }
 
 /// The command that is this step of an agent on a line.
-pub(crate) fn act(first: u8, second: u8, step: Step) -> Command
+fn act(first: u8, second: u8, step: Step) -> Command
     requires no_admit { step ≢ Step.Admit }
     requires no_retry { step ≢ Step.Retry }
     ensures { result ≡ act_at first second step }
@@ -207,69 +186,55 @@ pub(crate) fn act(first: u8, second: u8, step: Step) -> Command
 }
 
 /// The step of `VERB N L`.
-#[tactic(auto, unfolding(crate::specs::Commands::verb_step))]
-fn step_of(verb: &[u8]) -> Option<Step>
-    ensures is { result ≡ verb_step verb.now }
+#[inline(always)]
+fn step_of(verb: Verb) -> Option<Step>
+    ensures is { result ≡ verb_step verb }
     ensures own { IfSome result (λ step. (step ≢ Step.Admit) × (step ≢ Step.Retry)) }
 {
-    if is(verb, "drop") {
-        Some(Step::Drop)
-    } else if is(verb, "start") {
-        Some(Step::Start)
-    } else if is(verb, "snp") {
-        Some(Step::RecvSnp)
-    } else if is(verb, "snpresp") {
-        Some(Step::RecvSnpResp)
-    } else if is(verb, "retryack") {
-        Some(Step::RecvRetry)
-    } else if is(verb, "resend") {
-        Some(Step::Resend)
-    } else if is(verb, "cancel") {
-        Some(Step::Cancel)
-    } else if is(verb, "data") {
-        Some(Step::RecvData)
-    } else if is(verb, "comp") {
-        Some(Step::RecvComp)
-    } else if is(verb, "ack") {
-        Some(Step::RecvAck)
-    } else if is(verb, "dbid") {
-        Some(Step::RecvDbid)
-    } else if is(verb, "wrdata") {
-        Some(Step::RecvWrData)
-    } else {
-        None
+    match verb {
+        Verb::Drop => Some(Step::Drop),
+        Verb::Start => Some(Step::Start),
+        Verb::Snp => Some(Step::RecvSnp),
+        Verb::SnpResp => Some(Step::RecvSnpResp),
+        Verb::RetryAck => Some(Step::RecvRetry),
+        Verb::Resend => Some(Step::Resend),
+        Verb::Cancel => Some(Step::Cancel),
+        Verb::Data => Some(Step::RecvData),
+        Verb::Comp => Some(Step::RecvComp),
+        Verb::Ack => Some(Step::RecvAck),
+        Verb::Dbid => Some(Step::RecvDbid),
+        Verb::WrData => Some(Step::RecvWrData),
+        _ => None,
     }
 }
 
 /// The step of `VERB N L` and one word whose form the verb says.
-fn step_with_one(verb: &[u8], third: &[u8]) -> Option<Step>
-    ensures is { result ≡ step_with_one verb.now third.now }
+fn step_with_one(verb: Verb, third: &[u8]) -> Option<Step>
+    ensures is { result ≡ step_with_one verb third.now }
     ensures own { IfSome result (λ step. (step ≢ Step.Admit) × (step ≢ Step.Retry)) }
 {
-    if is(verb, "load") {
-        Some(Step::Load(WordNo(small(third)?)))
-    } else {
-        None
+    match verb {
+        Verb::Load => Some(Step::Load(WordNo(small(third)?))),
+        _ => None,
     }
 }
 
 /// The step of `VERB N L` and two words whose form the verb says.
-fn step_with_two(verb: &[u8], third: &[u8], fourth: &[u8]) -> Option<Step>
-    ensures is { result ≡ step_with_two verb.now third.now fourth.now }
+fn step_with_two(verb: Verb, third: &[u8], fourth: &[u8]) -> Option<Step>
+    ensures is { result ≡ step_with_two verb third.now fourth.now }
     ensures own { IfSome result (λ step. (step ≢ Step.Admit) × (step ≢ Step.Retry)) }
 {
-    if is(verb, "store") {
-        Some(Step::Store(WordNo(small(third)?), number(fourth)?))
-    } else if is(verb, "issue") {
-        Some(Step::Issue(read_kind(third)?, Slot(small(fourth)?)))
-    } else {
-        None
+    match verb {
+        Verb::Store => Some(Step::Store(WordNo(small(third)?), number(fourth)?)),
+        Verb::Issue => Some(Step::Issue(read_kind(third)?, Slot(small(fourth)?))),
+        _ => None,
     }
 }
 
-/// The kind of request that the word names.
+/// The kind of request that the word names; `None` for every other word.
+/// Source: `docs/FORMATS.md`, "Replay files".
 #[tactic(auto, unfolding(crate::specs::Commands::kind_named))]
-pub(crate) fn read_kind(word: &[u8]) -> Option<Kind>
+pub fn read_kind(word: &[u8]) -> Option<Kind>
     ensures { result ≡ kind_named word.now }
 {
     if is(word, "ReadNotSharedDirty") {

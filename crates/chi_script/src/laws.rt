@@ -1,12 +1,13 @@
 //! Laws of the grammars: what is read is what is written, in the words of the page on each kind of file.
 
 ghost use Rattle.std.specs.Prelude.{◌≡◌, ℕ, ◌+◌, List, take, true};
+ghost use Rattle.chi_script.specs.declared.commands.Command.{Command};
 ghost use Rattle.chi_script.specs.declared.headers.Header.{Header};
 ghost use Rattle.chi_script.specs.Words.{number_of};
 ghost use Rattle.chi_script.specs.Headers.{is_in_limits, line_header};
 ghost use Rattle.chi_script.specs.Commands.{line_command};
 ghost use Rattle.chi_script.specs.Files.{file_of};
-ghost use Rattle.chi_script.specs.Spelling.{FilesAll, FilesOnly, IsNumber, IsLine, IsHeaderLine, ReadsAll, ReadsOnly};
+ghost use Rattle.chi_script.specs.Spelling.{FilesAll, FilesOnly, IsNumber, IsLine, IsHeaderLine, IsOfFile, IsReadAgain, ReadsAll, ReadsOnly};
 ghost use Rattle.chi_script.specs.Checks.{check_of};
 ghost use Rattle.chi_script.specs.CheckFiles.{check_file_of, most_check_bytes};
 ghost use Rattle.chi_script.specs.CheckSpelling.{IsCheckFile, IsCheckLine, IsReplayed};
@@ -26,6 +27,12 @@ pub fn numbers_are_decimal()
 pub fn commands_are_lines()
     ensures read { ReadsOnly line_command IsLine }
     ensures again { ReadsAll line_command IsLine }
+{}
+
+/// A command that a file may have is printed as one of its lines, and is read as itself again.
+/// Source: `docs/FORMATS.md`, "Replay files".
+pub fn printed_commands_are_read()
+    ensures { (command : Command) → IsOfFile command → IsReadAgain command }
 {}
 
 /// A line is read as a header exactly where it is the one spelling of it and the header is within the

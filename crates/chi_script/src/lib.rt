@@ -21,14 +21,16 @@ mod operations;
 mod reading;
 mod requester_actions;
 mod shown_words;
+mod spelling;
 mod storms;
 mod system;
 mod usual_lines;
+mod verbs;
 mod words;
 
 pub use check_files::{CheckFile, MOST_CHECK_BYTES, read_checks};
-pub use checks::Check;
-pub use commands::{Command, read_command};
+pub use checks::{Check, is_comment};
+pub use commands::{Command, read_command, read_kind};
 pub use devices::{Failed, Input, Output};
 pub use faults::Fault;
 pub use files::{MOST_BYTES, ReplayFile, command_in, first_line, header_in, read_file, read_head};
@@ -38,8 +40,8 @@ pub use headers::{Header, read_header};
 pub use hints::{hint_at, line_at};
 pub use laws::{
     check_files_are_lines, check_front_is_enough, checks_are_lines, commands_are_lines,
-    headers_are_lines, numbers_are_decimal, operations_are_lines, replay_front_is_enough,
-    replays_are_check_files, storm_front_is_enough, storms_are_files,
+    headers_are_lines, numbers_are_decimal, operations_are_lines, printed_commands_are_read,
+    replay_front_is_enough, replays_are_check_files, storm_front_is_enough, storms_are_files,
 };
 pub use memory::{MemoryInput, MemoryOutput};
 pub use numbers::{number, small};
@@ -49,6 +51,7 @@ pub use requester_actions::RequesterAction;
 pub use shown_words::ShownWord;
 pub use storms::{StormFile, read_storm};
 pub use system::{FileInput, StandardOutput};
+pub use verbs::Verb;
 pub use words::{first_word, is, read_words};
 
 #[cfg(test)]

@@ -1,17 +1,14 @@
 -- The lines of a file of weights one after the other, as a loop reads them.
-use Rattle.std.proofs.Common.{◌≡◌, ℕ, ◌+◌, ◌==◌, true, false, List, [], ◌∷◌, length, Option, Some, None, if◌then◌else◌, slice_get, refl, sym, ◌∙◌, ap, subst, arith}
+use Rattle.std.proofs.Common.{◌≡◌, ℕ, ◌+◌, ◌==◌, true, false, List, [], ◌∷◌, length, Option, Some, None, if◌then◌else◌, refl, sym, ◌∙◌, ap, subst, arith}
 use Rattle.std.proofs.lemmas.Bool.{eqb-true}
 use Rattle.chi_script.specs.Files.{lines_of}
 use Rattle.chi_script.proofs.LineLemmas.{parts_of}
 use Rattle.chi_script.specs.Words.{words_of}
-use Rattle.chi_stimulus.specs.Proposals.{all_verbs}
-use Rattle.chi_stimulus.specs.declared.verbs.Verb.{Verb}
-use Rattle.chi_stimulus.specs.declared.verbs.Verb.TheVariants.{Load, Store, Drop, Issue, Arrive, Start, Snp, SnpResp, RetryAck, Resend, Cancel, Data, Comp, Dbid, Ack, WrData, See, GiveBack, Tend}
 use Rattle.chi_stimulus.specs.declared.weight_faults.WeightsFault.{WeightsFault}
 use Rattle.chi_stimulus.specs.declared.weight_faults.WrongWords.{WrongWords}
 use Rattle.chi_stimulus.specs.WeightFaults.{IsWeightsFault, IsWrong}
 use Rattle.chi_stimulus.specs.declared.weights.Weights.{Weights}
-use Rattle.chi_stimulus.specs.Weights.{first_wrong, is_weight_line, weight_place, weight_of, weights_behind, with_weight_line}
+use Rattle.chi_stimulus.specs.Weights.{first_wrong, is_weight_line, weight_of, weights_behind, with_weight_line}
 
 -- one line that a line end closes, and what follows it
 one_line : (n : ℕ) (rest line after : List ℕ) → lines_of rest ≡ line ∷ lines_of after
@@ -67,25 +64,3 @@ says_all weights [] total e empty so_far =
     let one : weights_behind weights (lines_of []) ≡ weights = ap (weights_behind weights) e in
     sym one ∙ so_far
 says_all weights (byte ∷ bytes) total e empty so_far = absurd (omega (arith, eqb-true (length (byte ∷ bytes)) 0 empty))
-
--- a verb's weight stands at the place of the verb
-pub place_is : (verb : Verb) → slice_get all_verbs (weight_place verb) ≡ Some verb
-place_is Load = refl
-place_is Store = refl
-place_is Drop = refl
-place_is Issue = refl
-place_is Arrive = refl
-place_is Start = refl
-place_is Snp = refl
-place_is SnpResp = refl
-place_is RetryAck = refl
-place_is Resend = refl
-place_is Cancel = refl
-place_is Data = refl
-place_is Comp = refl
-place_is Dbid = refl
-place_is Ack = refl
-place_is WrData = refl
-place_is See = refl
-place_is GiveBack = refl
-place_is Tend = refl

@@ -14,12 +14,12 @@ use Rattle.chi_replay.specs.Texts.{Permits, opening_ports}
 use Rattle.rand_chacha.specs.ChaCha.{ChaCha}
 use Rattle.chi_stimulus.specs.declared.options.DrawOptions.{DrawOptions}
 use Rattle.chi_stimulus.specs.declared.plan.Plan.{Plan}
-use Rattle.chi_stimulus.specs.declared.verbs.Verb.{Verb}
+use Rattle.chi_script.specs.declared.verbs.Verb.{Verb}
 use Rattle.chi_stimulus.specs.declared.weights.Weights.{Weights}
 use Rattle.chi_stimulus.specs.declared.words.Lot.{Lot}
 use Rattle.chi_stimulus.specs.Lots.{lot_now, past_lot, past_word, seeded, word_now}
 use Rattle.chi_stimulus.specs.Proposals.{any_command, command_by, operands_at, operands_of, rest_verb, usual_weights, verb_by}
-use Rattle.chi_stimulus.specs.Spelled.{drawn_command}
+use Rattle.chi_script.specs.Spelling.{command_text}
 
 -- an answer that begins with o, as no refusal does
 abbrev pub is_plain : List ℕ → Bool
@@ -65,7 +65,7 @@ if_done next d = if d.done then next d else Ends d
 -- the command stands in the text with its answer
 abbrev pub noted : Command → Drawn → List ℕ → Machine → Drawn
 noted command d said m =
-    record { state = m; words = d.words; count = (d.count + 1) % 2 ^ 64; text = d.text ++ (drawn_command command ++ (codes " -> " ++ (said ++ (10 ∷ [])))); done = d.done }
+    record { state = m; words = d.words; count = (d.count + 1) % 2 ^ 64; text = d.text ++ (command_text command ++ (codes " -> " ++ (said ++ (10 ∷ [])))); done = d.done }
 
 -- where it isn't refused, it does, and one was kept; else only the node may have gone on
 abbrev pub noted_if : Bool → Command → Drawn → List ℕ → Machine → Drawn

@@ -12,7 +12,7 @@ use Rattle.rand_chacha.specs.ChaCha.{ChaCha}
 use Rattle.chi_stimulus.specs.declared.plan.Plan.{Plan}
 use Rattle.chi_stimulus.specs.Drafts.{Asks, Draft, Drawn, Ends}
 use Rattle.chi_stimulus.specs.Lots.{seeded}
-use Rattle.chi_stimulus.specs.Spelled.{drawn_command}
+use Rattle.chi_script.specs.Spelling.{command_text}
 
 -- a node, the place in the words, the commands so far, their text, what the last one was answered, and whether one was kept
 pub record DrawingState : Type 0 where
@@ -44,7 +44,7 @@ pub record IsTurnPlayed (command : Command) (old new : DrawingState) : Type 0 wh
 
 -- the command stands in the text with what was said
 abbrev pub with_note : Command → DrawingState → DrawingState
-with_note command d = record d { count = (d.count + 1) % 2 ^ 64; text = d.text ++ (drawn_command command ++ (codes " -> " ++ d.said)) }
+with_note command d = record d { count = (d.count + 1) % 2 ^ 64; text = d.text ++ (command_text command ++ (codes " -> " ++ d.said)) }
 
 -- a new node, and a header
 abbrev pub IsBlank : List ℕ → Sizes → ℕ → DrawingState → Type 0

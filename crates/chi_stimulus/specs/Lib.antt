@@ -1,5 +1,4 @@
 pub mod Lots
-pub mod Spelled
 pub mod Proposals
 pub mod Drafts
 pub mod Goes

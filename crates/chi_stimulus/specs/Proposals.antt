@@ -1,5 +1,6 @@
 -- From words to a command (docs/FORMATS.md, "Drawn files").
 use Rattle.std.specs.Prelude.{ℕ, ◌+◌, ◌-◌, ◌/◌, ◌%◌, ◌==◌, nat_lt, List, [], ◌∷◌, sum, slice_get, slice_index, Option, Some, None, Bool, true, false, if◌then◌else◌}
+use Rattle.std.specs.Option.{unwrap_or}
 use Rattle.chi_flit.specs.Numbers.{agent_at, credit_of, line_at, slot_at, word_at}
 use Rattle.chi_flit.specs.declared.kind.Kind.{Kind}
 use Rattle.chi_flit.specs.declared.kind.Kind.TheVariants.{ReadNotSharedDirty, ReadShared, ReadUnique, CleanUnique, Evict, WriteBackFull, WriteCleanFull, WriteEvictFull}
@@ -10,15 +11,10 @@ use Rattle.chi_script.specs.declared.commands.Command.TheVariants as commands
 use Rattle.chi_script.specs.Commands.{act_at}
 use Rattle.chi_stimulus.specs.declared.operands.Operands.{Operands}
 use Rattle.chi_stimulus.specs.declared.plan.Plan.{Plan}
-use Rattle.chi_stimulus.specs.declared.verbs.Verb.{Verb}
-use Rattle.chi_stimulus.specs.declared.verbs.Verb.TheVariants as verbs
+use Rattle.chi_script.specs.declared.verbs.Verb.{Verb}
+use Rattle.chi_script.specs.declared.verbs.Verb.TheVariants as verbs
+use Rattle.chi_script.specs.Verbs.{all_verbs}
 use Rattle.chi_stimulus.specs.declared.words.Lot.{Lot}
-
--- the verbs, each at its place
-abbrev pub all_verbs : List Verb
-all_verbs =
-    verbs.Load ∷ verbs.Store ∷ verbs.Drop ∷ verbs.Issue ∷ verbs.Arrive ∷ verbs.Start ∷ verbs.Snp ∷ verbs.SnpResp ∷ verbs.RetryAck ∷ verbs.Resend
-    ∷ verbs.Cancel ∷ verbs.Data ∷ verbs.Comp ∷ verbs.Dbid ∷ verbs.Ack ∷ verbs.WrData ∷ verbs.See ∷ verbs.GiveBack ∷ verbs.Tend ∷ []
 
 -- of places that weigh so much, from this one on, the one in whose weight the number falls
 unfoldable pub place_from : ℕ → List ℕ → ℕ → Option ℕ
@@ -34,7 +30,7 @@ abbrev pub verb_at : Option ℕ → Option Verb
 verb_at None = None
 verb_at (Some place) = slice_get all_verbs place
 
--- the verb of a word: by the weights; or of all verbs with one chance, none where its weight is 0
+-- the verb of a word: by the weights; or of those that don't only ask with one chance, none where its weight is 0
 abbrev pub weighted_verb : List ℕ → ℕ → Option Verb
 weighted_verb weights word = verb_at (place_by weights word)
 
@@ -113,21 +109,14 @@ command_by verbs.WrData o count = step_by o steps.RecvWrData
 command_by verbs.See o count = commands.See (agent_at o.agent)
 command_by verbs.GiveBack o count = commands.GiveBack (agent_at o.agent) o.credit
 command_by verbs.Tend o count = commands.Tend (agent_at o.agent) o.credit
+command_by verbs.Totals o count = commands.Totals
+command_by verbs.Audit o count = commands.Audit
+command_by verbs.Show o count = commands.Show (line_at o.line)
+command_by verbs.Flits o count = commands.Flits (agent_at o.agent) (line_at o.line)
 
--- the commands that only ask, at the places behind those of the verbs
-abbrev pub question_by : ℕ → Operands → Command
-question_by place o =
-    if place == 19 then commands.Totals else (
-    if place == 20 then commands.Audit else (
-    if place == 21 then commands.Show (line_at o.line) else commands.Flits (agent_at o.agent) (line_at o.line)))
-
-abbrev pub verb_or_question : Option Verb → ℕ → Operands → ℕ → Command
-verb_or_question (Some verb) place o count = command_by verb o count
-verb_or_question None place o count = question_by place o
-
--- any command
+-- any command: there are 23 verbs
 abbrev pub any_command : Plan → Lot → ℕ → Command
-any_command plan lot count = verb_or_question (slice_get all_verbs (lot.verb % 23)) (lot.verb % 23) (near_operands_of plan lot) count
+any_command plan lot count = command_by (unwrap_or (slice_get all_verbs (lot.verb % 23)) verbs.Totals) (near_operands_of plan lot) count
 
 -- the commands that bring an agent's request to rest at a line, by their places; those up to 10 go on with it
 abbrev pub rest_verb : ℕ → Verb
@@ -148,6 +137,6 @@ rest_verb place =
 abbrev pub operands_at : ℕ → ℕ → Operands
 operands_at agent line = record { agent = agent; line = line; number = 0; kind = ReadShared; credit = None }
 
--- the weights where none are given
+-- the weights where none are given; a verb that only asks has none
 abbrev pub usual_weights : List ℕ
-usual_weights = 40 ∷ 40 ∷ 20 ∷ 300 ∷ 200 ∷ 200 ∷ 200 ∷ 200 ∷ 200 ∷ 200 ∷ 10 ∷ 200 ∷ 200 ∷ 200 ∷ 200 ∷ 200 ∷ 5 ∷ 40 ∷ 1 ∷ []
+usual_weights = 40 ∷ 40 ∷ 20 ∷ 300 ∷ 200 ∷ 200 ∷ 200 ∷ 200 ∷ 200 ∷ 200 ∷ 10 ∷ 200 ∷ 200 ∷ 200 ∷ 200 ∷ 200 ∷ 5 ∷ 40 ∷ 1 ∷ 0 ∷ 0 ∷ 0 ∷ 0 ∷ []

@@ -1,46 +1,23 @@
 -- Files of weights (docs/FORMATS.md, "Drawn files").
-use Rattle.std.specs.Prelude.{ℕ, ◌+◌, ◌==◌, ◌||◌, Bool, true, false, List, [], ◌∷◌, Option, Some, None, codes, length, replicate, slice_index_or, slice_set, sum, if◌then◌else◌}
+use Rattle.std.specs.Prelude.{ℕ, ◌+◌, ◌==◌, ◌||◌, Bool, true, false, List, [], ◌∷◌, ◌++◌, Option, Some, None, length, nat_lt, replicate, slice_index_or, slice_set, sum, if◌then◌else◌}
 use Rattle.std.specs.List.{slice_split}
 use Rattle.chi_script.specs.Checks.{is_comment}
 use Rattle.chi_script.specs.Headers.{is_from}
-use Rattle.chi_script.specs.Words.{◌>>=◌, is_text, number_of, words_of}
+use Rattle.chi_script.specs.Words.{◌>>=◌, number_of, words_of}
 use Rattle.chi_flit.specs.declared.kind.Kind.{Kind}
-use Rattle.chi_flit.specs.declared.kind.Kind.TheVariants as kinds
-use Rattle.chi_script.specs.Commands.{kind_named}
-use Rattle.chi_stimulus.specs.declared.verbs.Verb.{Verb}
+use Rattle.chi_flit.specs.Kind.{kind_number}
+use Rattle.chi_script.specs.Commands.{all_kinds, kind_named}
+use Rattle.chi_script.specs.declared.verbs.Verb.{Verb}
+use Rattle.chi_script.specs.Verbs.{verb_named, verb_place}
 use Rattle.chi_stimulus.specs.Proposals.{usual_weights}
 use Rattle.chi_stimulus.specs.declared.weights.Weighed.{Weighed}
 use Rattle.chi_stimulus.specs.declared.weights.Weights.{Weights}
 use Rattle.chi_stimulus.specs.declared.weights.Weighed.TheVariants as weighed
-use Rattle.chi_stimulus.specs.declared.verbs.Verb.TheVariants.{Load, Store, Drop, Issue, Arrive, Start, Snp, SnpResp, RetryAck, Resend, Cancel, Data, Comp, Dbid, Ack, WrData, See, GiveBack, Tend}
 
--- the verbs that go on with a request
-unfoldable pub delivery_named : List ℕ → Option Verb
-delivery_named word =
-    if is_text word (codes "arrive") then Some Arrive else (
-    if is_text word (codes "start") then Some Start else (
-    if is_text word (codes "snp") then Some Snp else (
-    if is_text word (codes "snpresp") then Some SnpResp else (
-    if is_text word (codes "retryack") then Some RetryAck else (
-    if is_text word (codes "resend") then Some Resend else (
-    if is_text word (codes "cancel") then Some Cancel else (
-    if is_text word (codes "data") then Some Data else (
-    if is_text word (codes "comp") then Some Comp else (
-    if is_text word (codes "dbid") then Some Dbid else (
-    if is_text word (codes "ack") then Some Ack else (
-    if is_text word (codes "wrdata") then Some WrData else None)))))))))))
-
--- all verbs that are drawn
-unfoldable pub verb_named : List ℕ → Option Verb
-verb_named word =
-    if is_text word (codes "load") then Some Load else (
-    if is_text word (codes "store") then Some Store else (
-    if is_text word (codes "drop") then Some Drop else (
-    if is_text word (codes "issue") then Some Issue else (
-    if is_text word (codes "see") then Some See else (
-    if is_text word (codes "giveback") then Some GiveBack else (
-    if is_text word (codes "tend") then Some Tend else
-    delivery_named word))))))
+-- the verb, where it isn't one that only asks
+abbrev pub drawn : Option Verb → Option Verb
+drawn None = None
+drawn (Some verb) = if nat_lt (verb_place verb) 19 then Some verb else None
 
 -- a weight is a number of a replay file from 0 to 1,000
 abbrev pub weight_in : List ℕ → Option ℕ
@@ -53,7 +30,7 @@ weighed_or None (Some kind) = Some (weighed.Kind kind)
 weighed_or None None = None
 
 abbrev pub weighed_named : List ℕ → Option Weighed
-weighed_named word = weighed_or (verb_named word) (kind_named word)
+weighed_named word = weighed_or (drawn (verb_named word)) (kind_named word)
 
 -- VERB WEIGHT, or KIND WEIGHT
 abbrev pub weight_of : List (List ℕ) → Option (Weighed × ℕ)
@@ -74,43 +51,10 @@ first_wrong n [] = None
 first_wrong n (last ∷ []) = if length last == 0 then None else Some (n, None)
 first_wrong n (line ∷ next ∷ rest) = if is_weight_line line then first_wrong (n + 1) (next ∷ rest) else Some (n, Some (words_of line))
 
--- the place of a verb's weight, which is that of the verb among all
-abbrev pub weight_place : Verb → ℕ
-weight_place Load = 0
-weight_place Store = 1
-weight_place Drop = 2
-weight_place Issue = 3
-weight_place Arrive = 4
-weight_place Start = 5
-weight_place Snp = 6
-weight_place SnpResp = 7
-weight_place RetryAck = 8
-weight_place Resend = 9
-weight_place Cancel = 10
-weight_place Data = 11
-weight_place Comp = 12
-weight_place Dbid = 13
-weight_place Ack = 14
-weight_place WrData = 15
-weight_place See = 16
-weight_place GiveBack = 17
-weight_place Tend = 18
-
--- the place of a kind's weight
-abbrev pub kind_place : Kind → ℕ
-kind_place kinds.ReadNotSharedDirty = 0
-kind_place kinds.ReadShared = 1
-kind_place kinds.ReadUnique = 2
-kind_place kinds.CleanUnique = 3
-kind_place kinds.Evict = 4
-kind_place kinds.WriteBackFull = 5
-kind_place kinds.WriteCleanFull = 6
-kind_place kinds.WriteEvictFull = 7
-
 -- what a line says puts the weight at the place of its verb, or of its kind
 abbrev pub with_said : Weights → Weighed → ℕ → Weights
-with_said weights (weighed.Verb verb) n = record weights { by_place = slice_set weights.by_place (weight_place verb) n }
-with_said weights (weighed.Kind kind) n = record weights { by_kind = slice_set weights.by_kind (kind_place kind) n }
+with_said weights (weighed.Verb verb) n = record weights { by_place = slice_set weights.by_place (verb_place verb) n }
+with_said weights (weighed.Kind kind) n = record weights { by_kind = slice_set weights.by_kind (kind_number kind) n }
 
 abbrev pub with_weight : Weights → Option (Weighed × ℕ) → Weights
 with_weight weights None = weights
@@ -124,14 +68,14 @@ unfoldable pub weights_behind : Weights → List (List ℕ) → Weights
 weights_behind weights [] = weights
 weights_behind weights (line ∷ lines) = weights_behind (with_weight_line weights line) lines
 
--- the weights that lines say: 1 each, but for what is said
+-- the weights that lines say: 1 each, but for what is said, and none of a verb that only asks
 abbrev pub weights_said : List (List ℕ) → Weights
-weights_said lines = weights_behind (record { by_place = replicate 19 1; by_kind = replicate 8 1 }) lines
+weights_said lines = weights_behind (record { by_place = replicate 19 1 ++ replicate 4 0; by_kind = replicate 8 1 }) lines
 
 -- the kinds of a list with commas between them, each by whether it is listed; none where a name is no kind
 abbrev pub with_kind : List Bool → Option Kind → Option (List Bool)
 with_kind listed None = None
-with_kind listed (Some kind) = Some (slice_set listed (kind_place kind) true)
+with_kind listed (Some kind) = Some (slice_set listed (kind_number kind) true)
 
 unfoldable pub kinds_behind : List Bool → List (List ℕ) → Option (List Bool)
 kinds_behind listed [] = Some listed
@@ -142,18 +86,13 @@ kinds_listed list = kinds_behind (replicate 8 false) (slice_split (λ byte. byte
 
 -- whether a kind is listed
 abbrev pub is_listed : List Bool → Kind → Bool
-is_listed listed kind = slice_index_or listed (kind_place kind) false
-
-abbrev pub all_kinds : List Kind
-all_kinds =
-    kinds.ReadNotSharedDirty ∷ kinds.ReadShared ∷ kinds.ReadUnique ∷ kinds.CleanUnique ∷ kinds.Evict ∷ kinds.WriteBackFull ∷ kinds.WriteCleanFull
-    ∷ kinds.WriteEvictFull ∷ []
+is_listed listed kind = slice_index_or listed (kind_number kind) false
 
 -- those of some kinds that aren't listed weigh nothing
 abbrev pub without_others : List Bool → List Kind → List ℕ → List ℕ
 without_others listed [] weights = weights
 without_others listed (kind ∷ others) weights =
-    without_others listed others (if is_listed listed kind then weights else slice_set weights (kind_place kind) 0)
+    without_others listed others (if is_listed listed kind then weights else slice_set weights (kind_number kind) 0)
 
 -- kinds that aren't listed weigh nothing; where those that are weigh nothing either, these weigh 1 each
 abbrev pub limited : List ℕ → List Bool → List ℕ

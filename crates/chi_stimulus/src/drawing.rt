@@ -10,7 +10,6 @@ use crate::operands::Operands;
 use crate::plan::Plan;
 use crate::proposals::{any_command, command_by};
 use crate::second_pass::is_plain;
-use crate::spelled::Spelled;
 use crate::words::{Lot, Words};
 use chi_flit::{Agent, NoMemory};
 use chi_node::System;
@@ -166,9 +165,8 @@ impl<A: Allocator> Drawing<A> {
     fn note(&mut self, command: &Command) -> Result<(), NoMemory>
         ensures { OnOk result (self.new ≡ with_note command.now self.old) }
     {
-        let spelled = Spelled(*command);
         let said = self.said.as_str();
-        write!(self.text, "{spelled} -> {said}")?;
+        write!(self.text, "{command} -> {said}")?;
         self.count = self.count.wrapping_add(1);
         Ok(())
     }

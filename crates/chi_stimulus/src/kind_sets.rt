@@ -2,12 +2,12 @@
 
 ghost use Rattle.std.specs.Prelude.{◌≡◌, ◌==◌, ◌<◌, ◌∷◌, [], IfNone, IfSome, length, option_map, slice_set, true};
 ghost use Rattle.std.specs.List.{position, slice_split};
-ghost use Rattle.chi_script.specs.Commands.{kind_named};
-ghost use Rattle.chi_stimulus.specs.Weights.{is_listed, kind_place, kinds_listed};
+ghost use Rattle.chi_flit.specs.Kind.{kind_number};
+ghost use Rattle.chi_stimulus.specs.Weights.{is_listed, kinds_listed};
 
-use crate::weights::{KINDS, place_of_kind};
+use crate::weights::KINDS;
 use chi_flit::Kind;
-use chi_script::is;
+use chi_script::read_kind;
 
 /// Kinds of request.
 /// Source: `docs/FORMATS.md`, "Drawn files".
@@ -34,32 +34,6 @@ pub fn read_kinds(list: &[u8]) -> Option<KindSet>
     Some(kinds)
 }
 
-/// The kind of request that the word names; `None` for every other word.
-#[tactic(auto, unfolding(chi_script::specs::Commands::kind_named))]
-pub(crate) fn read_kind(word: &[u8]) -> Option<Kind>
-    ensures { result ≡ kind_named word.now }
-{
-    if is(word, "ReadNotSharedDirty") {
-        Some(Kind::ReadNotSharedDirty)
-    } else if is(word, "ReadShared") {
-        Some(Kind::ReadShared)
-    } else if is(word, "ReadUnique") {
-        Some(Kind::ReadUnique)
-    } else if is(word, "CleanUnique") {
-        Some(Kind::CleanUnique)
-    } else if is(word, "Evict") {
-        Some(Kind::Evict)
-    } else if is(word, "WriteBackFull") {
-        Some(Kind::WriteBackFull)
-    } else if is(word, "WriteCleanFull") {
-        Some(Kind::WriteCleanFull)
-    } else if is(word, "WriteEvictFull") {
-        Some(Kind::WriteEvictFull)
-    } else {
-        None
-    }
-}
-
 /// The first name of a list, and what stands behind the comma after it; `None` where there is no comma.
 fn first_name(list: &[u8]) -> Option<(&[u8], &[u8])>
     ensures some { IfSome result
@@ -84,13 +58,13 @@ impl KindSet {
     pub(crate) fn has(&self, kind: Kind) -> bool
         ensures { result ≡ is_listed self.now.by_place kind }
     {
-        self.by_place[place_of_kind(kind)]
+        self.by_place[usize::from(kind.number())]
     }
 
     /// Takes a kind in.
     fn add(&mut self, kind: Kind)
-        ensures { self.new.by_place ≡ slice_set self.old.by_place (kind_place kind) true }
+        ensures { self.new.by_place ≡ slice_set self.old.by_place (kind_number kind) true }
     {
-        self.by_place[place_of_kind(kind)] = true;
+        self.by_place[usize::from(kind.number())] = true;
     }
 }

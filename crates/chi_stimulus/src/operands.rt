@@ -1,7 +1,6 @@
 //! Operands that are drawn.
 
 ghost use Rattle.std.specs.Prelude.{◌≡◌, ◌<◌, ◌≤◌, ◌%◌, length};
-ghost use Rattle.chi_flit.specs.Numbers.{credit_of};
 ghost use Rattle.chi_stimulus.specs.Proposals.{kind_at, kind_by, near, near_operands_of, operands_at, operands_of};
 
 use crate::plan::Plan;
@@ -37,7 +36,7 @@ pub(crate) fn kind_at(number: u32) -> Kind
 
 /// By a word, a kind of request, by the weights of the kinds; of kinds that all weigh 0 each has one chance.
 fn kind_by(weights: &[u16], word: u32) -> Kind
-    requires { length weights.now ≤ 19 }
+    requires { length weights.now ≤ 23 }
     ensures { result ≡ kind_by weights.now word }
 {
     match place_by(weights, word) {
@@ -53,19 +52,6 @@ fn kind_in(place: usize) -> Kind
     match place {
         0..=7 => kind_at(place as u32),
         _ => Kind::WriteEvictFull,
-    }
-}
-
-/// The credit type of a number; none has a number above 3.
-pub(crate) fn credit_of(number: u32) -> Option<CreditType>
-    ensures { result ≡ credit_of number }
-{
-    match number {
-        0 => Some(CreditType::T0),
-        1 => Some(CreditType::T1),
-        2 => Some(CreditType::T2),
-        3 => Some(CreditType::T3),
-        _ => None,
     }
 }
 
@@ -102,7 +88,7 @@ impl Operands {
             line: below(plan.lines, lot.line),
             number: below(8, lot.first),
             kind: kind_by(&plan.weights.by_kind, lot.second),
-            credit: credit_of(lot.second % u32::from(plan.types)),
+            credit: CreditType::numbered(below(plan.types, lot.second)),
         }
     }
 
@@ -117,7 +103,7 @@ impl Operands {
             line: near(plan.lines, lot.line),
             number: near(8, lot.first),
             kind: kind_by(&plan.weights.by_kind, lot.second),
-            credit: credit_of(lot.second % 5),
+            credit: CreditType::numbered(below(5, lot.second)),
         }
     }
 

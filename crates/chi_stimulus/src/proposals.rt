@@ -1,17 +1,16 @@
 //! The command of a verb and its operands.
 
 ghost use Rattle.std.specs.Prelude.{◌≡◌, ◌≢◌, ◌<◌};
-ghost use Rattle.chi_stimulus.specs.Proposals.{any_command, command_by, question_by, rest_verb, step_by};
+ghost use Rattle.chi_stimulus.specs.Proposals.{any_command, command_by, rest_verb, step_by};
 
 use crate::operands::Operands;
 use crate::plan::Plan;
-use crate::verbs::Verb;
 use crate::words::Lot;
 use chi_flit::{Action, Agent, Line, Slot, Step, WordNo};
-use chi_script::{Command, RequesterAction};
+use chi_script::{Command, RequesterAction, Verb};
 
-/// How many commands there are: those of the verbs, and four that only ask.
-const COMMANDS: u32 = 23;
+/// How many verbs there are.
+const VERBS: u32 = 23;
 
 /// A step of the agent at the line.
 fn act(operands: &Operands, step: Step) -> Command
@@ -50,19 +49,10 @@ pub(crate) fn command_by(verb: Verb, operands: &Operands, count: u64) -> Command
         Verb::See => Command::See { agent },
         Verb::GiveBack => Command::GiveBack { agent, credit },
         Verb::Tend => Command::Tend { agent, credit },
-    }
-}
-
-/// The command that only asks, at its place behind those of the verbs.
-fn question_by(place: u32, operands: &Operands) -> Command
-    ensures { result ≡ question_by place operands.now }
-{
-    let (agent, line) = (Agent(operands.agent), Line(operands.line));
-    match place {
-        19 => Command::Totals,
-        20 => Command::Audit,
-        21 => Command::Show { line },
-        _ => Command::Flits { agent, line },
+        Verb::Totals => Command::Totals,
+        Verb::Audit => Command::Audit,
+        Verb::Show => Command::Show { line },
+        Verb::Flits => Command::Flits { agent, line },
     }
 }
 
@@ -73,11 +63,8 @@ pub(crate) fn any_command(plan: &Plan, lot: &Lot, count: u64) -> Command
     ensures { result ≡ any_command plan.now lot.now count }
 {
     let operands = Operands::near(plan, lot);
-    let place = lot.verb % COMMANDS;
-    match Verb::at(place as usize) {
-        Some(verb) => command_by(verb, &operands, count),
-        None => question_by(place, &operands),
-    }
+    let verb = Verb::at((lot.verb % VERBS) as usize).unwrap_or(Verb::Totals);
+    command_by(verb, &operands, count)
 }
 
 /// The verb at a place among those that bring a request to rest.

@@ -5,10 +5,10 @@ ghost use Rattle.chi_stimulus.specs.Drafts.{looking, looking_at, returning, roun
 ghost use Rattle.chi_stimulus.specs.Goes.{Goes};
 
 use crate::drawing::Drawing;
-use crate::operands::{Operands, credit_of};
+use crate::operands::Operands;
 use crate::plan::Plan;
 use crate::proposals::{command_by, rest_verb};
-use chi_flit::{Agent, NoMemory};
+use chi_flit::{Agent, CreditType, NoMemory};
 use chi_script::Command;
 use std::alloc::Allocator;
 
@@ -117,7 +117,7 @@ impl<A: Allocator> Drawing<A> {
         ensures { OnOk result (Goes (returning plan.now agent) self.old self.new) }
     {
         for ty in 0..plan.types {
-            let credit = credit_of(u32::from(ty));
+            let credit = CreditType::numbered(ty);
             let agent = Agent(agent);
             self.tries(&Command::GiveBack { agent, credit })?;
         }

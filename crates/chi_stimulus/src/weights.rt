@@ -1,22 +1,33 @@
 //! Files of weights: how often each verb is drawn, and each kind of request.
 
 ghost use Rattle.std.specs.Prelude.{◌≡◌, ◌==◌, ◌<◌, ◌≤◌, length, sum, IfErr, IfNone, IfOk, IfSome, None, OnOk, Some, false, true};
-ghost use Rattle.chi_script.specs.Checks.{is_comment};
 ghost use Rattle.chi_script.specs.Files.{lines_of};
+ghost use Rattle.chi_script.specs.Verbs.{verb_named};
 ghost use Rattle.chi_script.specs.Words.{words_of};
 ghost use Rattle.chi_stimulus.specs.Proposals.{even_verb, place_by, place_from, verb_by, weighted_verb};
 ghost use Rattle.chi_stimulus.specs.WeightFaults.{IsWeightsFault, IsWrong};
-ghost use Rattle.chi_stimulus.specs.Weights.{first_wrong, is_weight_line, kind_place, limited, usual_or_alike, weighed_named, weight_in, weight_of, weights_said, with_said, with_weight_line, without_others};
+ghost use Rattle.chi_stimulus.specs.Weights.{drawn, first_wrong, is_weight_line, limited, usual_or_alike, weighed_named, weight_in, weight_of, weights_said, with_said, with_weight_line, without_others};
 
-use crate::kind_sets::{KindSet, read_kind};
-use crate::verbs::{COUNT, Verb};
+use crate::kind_sets::KindSet;
 use crate::weight_faults::{WeightsFault, WrongWords};
 use chi_flit::Kind;
-use chi_script::{first_line, first_word, number};
+use chi_script::{Verb, first_line, first_word, is_comment, number, read_kind};
+
+/// How many verbs there are.
+const VERBS: usize = 23;
+
+/// How many of them, the first, don't only ask.
+const DRAWN: usize = 19;
 
 /// The weights where none are given.
-pub(crate) const USUAL: [u16; COUNT] = [
-    40, 40, 20, 300, 200, 200, 200, 200, 200, 200, 10, 200, 200, 200, 200, 200, 5, 40, 1,
+const USUAL: [u16; VERBS] = [
+    40, 40, 20, 300, 200, 200, 200, 200, 200, 200, 10, 200, 200, 200, 200, 200, 5, 40, 1, 0, 0, 0,
+    0,
+];
+
+/// The weights of which nothing is said.
+const ALIKE: [u16; VERBS] = [
+    1, 1, 1, 1, 1, 1, 1, 1, 1, 1, 1, 1, 1, 1, 1, 1, 1, 1, 1, 0, 0, 0, 0,
 ];
 
 /// How many kinds of request there are.
@@ -26,8 +37,8 @@ pub(crate) const KINDS: usize = 8;
 /// Source: `docs/FORMATS.md`, "Drawn files".
 #[derive(Clone, Copy, Debug, PartialEq, Eq)]
 pub struct Weights {
-    /// The weight of each verb, at the place of the verb.
-    pub(crate) by_place: [u16; COUNT],
+    /// The weight of each verb, at the place of the verb; 0 of one that only asks.
+    pub(crate) by_place: [u16; VERBS],
     /// The weight of each kind of request, at the place of the kind.
     pub(crate) by_kind: [u16; KINDS],
 }
@@ -51,7 +62,7 @@ pub fn read_weights(bytes: &[u8]) -> Result<Weights, WeightsFault<'_>>
     ensures err { IfErr result (IsWeightsFault (first_wrong 1 (lines_of bytes.now))) }
 {
     let mut weights = Weights {
-        by_place: [1; COUNT],
+        by_place: ALIKE,
         by_kind: [1; KINDS],
     };
     let mut rest = bytes;
@@ -76,16 +87,6 @@ pub fn read_weights(bytes: &[u8]) -> Result<Weights, WeightsFault<'_>>
     }
 }
 
-/// Whether a line is a comment.
-fn is_comment(line: &[u8]) -> bool
-    ensures { result ≡ is_comment line.now }
-{
-    match line {
-        [] => true,
-        [first, ..] => *first == b'#',
-    }
-}
-
 /// The weight that a word says.
 fn weight_in(word: &[u8]) -> Option<u16>
     ensures { result ≡ weight_in word.now }
@@ -96,11 +97,23 @@ fn weight_in(word: &[u8]) -> Option<u16>
     }
 }
 
+/// The verb of this name that doesn't only ask.
+fn drawn_named(word: &[u8]) -> Option<Verb>
+    ensures { result ≡ drawn (verb_named word.now) }
+{
+    let verb = Verb::named(word)?;
+    if verb.place() < DRAWN {
+        Some(verb)
+    } else {
+        None
+    }
+}
+
 /// What has a weight by this name.
 fn weighed_named(word: &[u8]) -> Option<Weighed>
     ensures { result ≡ weighed_named word.now }
 {
-    match (Verb::named(word), read_kind(word)) {
+    match (drawn_named(word), read_kind(word)) {
         (Some(verb), _) => Some(Weighed::Verb(verb)),
         (None, Some(kind)) => Some(Weighed::Kind(kind)),
         (None, None) => None,
@@ -153,7 +166,7 @@ impl Weights {
     {
         match weighed {
             Weighed::Verb(verb) => self.by_place[verb.place()] = weight,
-            Weighed::Kind(kind) => self.by_kind[place_of_kind(kind)] = weight,
+            Weighed::Kind(kind) => self.by_kind[usize::from(kind.number())] = weight,
         }
     }
 
@@ -184,7 +197,7 @@ impl Weights {
         Weights { by_place, by_kind }
     }
 
-    /// The verb of a word: by the weights, or of all verbs with one chance, and none then whose weight is 0.
+    /// The verb of a word: by the weights, or of those that don't only ask with one chance, and none then whose weight is 0.
     pub(crate) fn verb_by(&self, even: bool, word: u32) -> Option<Verb>
         ensures { result ≡ verb_by even self.now.by_place word }
     {
@@ -195,7 +208,7 @@ impl Weights {
         }
     }
 
-    /// The verb of a word, of all verbs with one chance; none whose weight is 0.
+    /// The verb of a word, of those that don't only ask with one chance; none whose weight is 0.
     fn even_verb(&self, word: u32) -> Option<Verb>
         ensures { result ≡ even_verb self.now.by_place word }
     {
@@ -226,14 +239,14 @@ fn leave_out(weights: &mut [u16; KINDS], kinds: &[Kind], set: &KindSet)
 {
     for kind in kinds {
         if !set.has(*kind) {
-            weights[place_of_kind(*kind)] = 0;
+            weights[usize::from(kind.number())] = 0;
         }
     }
 }
 
 /// The verb of a word, by the weights; none where all are 0.
 fn weighted_verb(weights: &[u16], word: u32) -> Option<Verb>
-    requires { length weights.now ≤ 19 }
+    requires { length weights.now ≤ 23 }
     ensures { result ≡ weighted_verb weights.now word }
 {
     Verb::at(place_by(weights, word)?)
@@ -241,7 +254,7 @@ fn weighted_verb(weights: &[u16], word: u32) -> Option<Verb>
 
 /// The place of a word, by the weights; none where all are 0.
 pub(crate) fn place_by(weights: &[u16], word: u32) -> Option<usize>
-    requires { length weights.now ≤ 19 }
+    requires { length weights.now ≤ 23 }
     ensures { result ≡ place_by weights.now word }
 {
     let sum = sum_of(weights);
@@ -251,26 +264,9 @@ pub(crate) fn place_by(weights: &[u16], word: u32) -> Option<usize>
     place_of(weights, word % sum)
 }
 
-/// The place of a kind's weight.
-pub(crate) fn place_of_kind(kind: Kind) -> usize
-    ensures is { result ≡ kind_place kind }
-    ensures low { result < 8 }
-{
-    match kind {
-        Kind::ReadNotSharedDirty => 0,
-        Kind::ReadShared => 1,
-        Kind::ReadUnique => 2,
-        Kind::CleanUnique => 3,
-        Kind::Evict => 4,
-        Kind::WriteBackFull => 5,
-        Kind::WriteCleanFull => 6,
-        Kind::WriteEvictFull => 7,
-    }
-}
-
 /// The sum of weights.
 fn sum_of(weights: &[u16]) -> u32
-    requires { length weights.now ≤ 19 }
+    requires { length weights.now ≤ 23 }
     ensures { result ≡ sum weights.now }
 {
     weights.iter().map(|weight| u32::from(*weight)).sum()
