@@ -6,6 +6,7 @@ use Rattle.chi_flit.specs.declared.numbers.Agent.{Agent}
 use Rattle.chi_observe.specs.declared.credits.Account.{Account}
 use Rattle.chi_observe.specs.declared.ids.IdKey.{IdKey}
 use Rattle.chi_observe.specs.declared.ids.IdKey.TheVariants.{Retried}
+use Rattle.chi_observe.specs.declared.ids.OpenId.{OpenId}
 use Rattle.chi_observe.specs.Credits.{owed_of, unused_of}
 use Rattle.chi_observe.specs.Lines.{LineState, is_aside}
 use Rattle.chi_observe.specs.Nodes.{agent_of}

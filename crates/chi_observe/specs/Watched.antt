@@ -17,6 +17,7 @@ use Rattle.chi_observe.specs.declared.events.Tells.TheVariants.{NoForm, Unjudged
 use Rattle.chi_observe.specs.declared.ids.CacheLine.{CacheLine}
 use Rattle.chi_observe.specs.declared.ids.KeyNumbers.{KeyNumbers}
 use Rattle.chi_observe.specs.declared.ids.OpenId.{OpenId}
+use Rattle.chi_observe.specs.declared.ids.Sides.{Sides}
 use Rattle.chi_observe.specs.declared.reasons.IdReason.{IdReason}
 use Rattle.chi_observe.specs.declared.reasons.IdReason.TheVariants.{Form}
 use Rattle.chi_observe.specs.declared.reasons.LineReason.{LineReason}

@@ -187,7 +187,7 @@ impl<A: Allocator + Copy> Watch<A> {
 }
 
 /// Puts a line for each of these flits behind the text.
-fn write_recent<A: Allocator>(text: &mut String<A>, flits: &[Seen]) -> Result<(), AllocError> {
+fn write_recent<A: Allocator>(text: &mut String<A>, flits: &[AnySeen]) -> Result<(), AllocError> {
     for seen in flits {
         let (node, side) = requester_of(seen);
         let (name, node, number) = (SeenName(seen), NodeName(node), seen.line);
