@@ -93,15 +93,8 @@ fn expected(column: Column, channel: &[u8]) -> &'static str {
 /// The opcodes of a channel.
 fn opcodes(channel: &[u8]) -> &'static str {
     match channel {
-        b"REQ" => {
-            "ReadNotSharedDirty, ReadShared, ReadClean, ReadOnce, ReadUnique, CleanUnique, MakeUnique, CleanShared, CleanInvalid, MakeInvalid, Evict, WriteBackFull, WriteCleanFull, WriteEvictFull, WriteUniqueFull or PCrdReturn"
-        }
-        b"SNP" => {
-            "SnpOnce, SnpClean, SnpShared, SnpNotSharedDirty, SnpCleanShared, SnpUnique, SnpCleanInvalid or SnpMakeInvalid"
-        }
         b"CPU" => "Load or Store",
-        b"RSP" => "RetryAck, Comp, CompDBIDResp, PCrdGrant, SnpResp or CompAck",
-        _ => "CompData, SnpRespData, CopyBackWrData or NonCopyBackWrData",
+        _ => "an opcode: letters and digits, a capital first",
     }
 }
 
