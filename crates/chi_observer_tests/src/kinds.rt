@@ -12,9 +12,7 @@ use chi_observer::Kind::{
     CleanInvalid, CleanShared, MakeInvalid, MakeUnique, ReadClean, ReadShared, ReadUnique,
     WriteBackFull, WriteEvictFull, WriteUniqueFull,
 };
-use chi_observer::Snoop::{
-    SnpCleanInvalid, SnpCleanShared, SnpOnce, SnpShared, SnpUnique,
-};
+use chi_observer::Snoop::{SnpCleanInvalid, SnpCleanShared, SnpOnce, SnpShared, SnpUnique};
 use chi_observer::{Flit, Reason};
 
 #[test]
