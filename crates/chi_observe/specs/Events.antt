@@ -7,8 +7,8 @@ use Rattle.chi_observer.specs.Judged.{is_judged}
 use Rattle.chi_observe.specs.declared.events.Tells.{Tells}
 use Rattle.chi_observe.specs.declared.lines.LineNews.{LineNews}
 use Rattle.chi_observe.specs.declared.lines.LineNews.TheVariants as news
-use Rattle.chi_observe.specs.declared.steps.Part.{Part}
-use Rattle.chi_observe.specs.declared.steps.Part.TheVariants as parts
+use Rattle.chi_observe.specs.declared.tables.Part.{Part}
+use Rattle.chi_observe.specs.declared.tables.Part.TheVariants as parts
 use Rattle.chi_observe.specs.declared.events.Tells.TheVariants.{Sent, Given, Unjudged, NoForm}
 
 -- a flit, if an observer judges it

@@ -2,6 +2,10 @@ pub mod Reasons
 pub mod Ids
 pub mod Credits
 pub mod Steps
+pub mod Tables
+pub mod Beats
+pub mod Unknown
+pub mod Grants
 pub mod Marks
 pub mod Lines
 pub mod Events

@@ -4,8 +4,8 @@ use Rattle.chi_flit.specs.declared.numbers.Agent.{Agent}
 use Rattle.chi_trace.specs.declared.fields.NodeId.{NodeId}
 use Rattle.chi_trace.specs.declared.fields.PcrdType.{PcrdType}
 use Rattle.chi_observe.specs.declared.lines.LineNews.{LineNews}
-use Rattle.chi_observe.specs.declared.steps.Part.{Part}
-use Rattle.chi_observe.specs.declared.steps.Part.TheVariants as parts
+use Rattle.chi_observe.specs.declared.tables.Part.{Part}
+use Rattle.chi_observe.specs.declared.tables.Part.TheVariants as parts
 use Rattle.chi_observe.specs.declared.credits.Account.{Account}
 use Rattle.chi_observe.specs.declared.credits.AccountNumbers.{AccountNumbers}
 use Rattle.chi_observe.specs.declared.credits.Booking.{Booking}
@@ -21,7 +21,7 @@ use Rattle.chi_observe.specs.declared.ids.Sides.{Sides}
 use Rattle.chi_observe.specs.declared.reasons.IdReason.{IdReason}
 use Rattle.chi_observe.specs.declared.reasons.IdReason.TheVariants.{Form}
 use Rattle.chi_observe.specs.declared.reasons.LineReason.{LineReason}
-use Rattle.chi_observe.specs.declared.steps.Change.{Change}
+use Rattle.chi_observe.specs.declared.tables.Change.{Change}
 use Rattle.chi_observe.specs.declared.steps.WatchOptions.{WatchOptions}
 use Rattle.chi_observe.specs.declared.watch.Aside.{Aside}
 use Rattle.chi_observe.specs.declared.watch.Counts.{Counts}
@@ -34,7 +34,9 @@ use Rattle.chi_observe.specs.Credits.{booked, booked_all}
 use Rattle.chi_observe.specs.Events.{news_of}
 use Rattle.chi_observe.specs.Lines.{LineState, is_aside, is_line_reason, is_put_aside, line_next, lines_in, put_line, state_at, takes_line}
 use Rattle.chi_observe.specs.Nodes.{agent_of, with_home, with_requester}
-use Rattle.chi_observe.specs.Steps.{Table, change_of, granted, ids_after, returned}
+use Rattle.chi_observe.specs.Grants.{granted, returned}
+use Rattle.chi_observe.specs.Steps.{change_of, ids_after}
+use Rattle.chi_observe.specs.Tables.{Table}
 
 -- its nodes, the ids that are open, the credits, what is known of each line, and counts
 pub record Watched : Type 0 where

@@ -5,7 +5,8 @@ ghost use Rattle.chi_observe.specs.Events.{begun_by, flit_by, judged, news_of, w
 
 use crate::ids::{CacheLine, Sides};
 use crate::lines::LineNews;
-use crate::steps::{IdStep, Part};
+use crate::steps::IdStep;
+use crate::tables::Part;
 use chi_flit::{Agent, Data, NO_DATA};
 use chi_observer::{Act, CacheFlit, Flit, Grant, HomeFlit};
 use chi_trace::{PcrdType, Resp};

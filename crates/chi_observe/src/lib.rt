@@ -3,8 +3,10 @@
 //! Source: `docs/OBSERVER.md`, "A trace of many lines".
 #![tactic(auto)]
 
+mod beats;
 mod credits;
 mod events;
+mod grants;
 mod ids;
 mod lines;
 mod malformed;
@@ -20,7 +22,9 @@ mod reports;
 mod seen;
 mod steps;
 mod stream;
+mod tables;
 mod texts;
+mod unknown;
 mod watch;
 
 pub use credits::{Account, CreditTypes};

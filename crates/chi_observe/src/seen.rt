@@ -93,7 +93,7 @@ fn request_step(kind: Kind, fields: RequestFields) -> IdStep
     let line = line_of(fields.address);
     match fields.spends {
         None => IdStep::Attempt(fields.txn, kind, line),
-        Some(pcrd) => IdStep::Again(fields.txn, kind, line, pcrd),
+        Some(pcrd) => IdStep::Resent(fields.txn, kind, line, pcrd),
     }
 }
 

@@ -8,7 +8,8 @@ use crate::names::{GIVEN, KeyName, LineName, NodeName, SENT, ToldName};
 use crate::nodes::agent_of;
 use crate::pending::{SinceText, requester_in};
 use crate::reasons::{IdReason, LineReason};
-use crate::steps::{IdStep, Part};
+use crate::steps::IdStep;
+use crate::tables::Part;
 use crate::watch::{Watch, WatchFault};
 use chi_flit::{Agent, Data, NO_DATA};
 use chi_observer::{
@@ -373,7 +374,7 @@ fn named_key(event: &LineEvent) -> Option<IdKey> {
     let sides = event.sides;
     match event.step {
         IdStep::Attempt(_, _, _) => None,
-        IdStep::Again(_, _, line, _) => Some(IdKey::Retried(sides, line)),
+        IdStep::Resent(_, _, line, _) => Some(IdKey::Retried(sides, line)),
         IdStep::Snoop(_, _, _) => None,
         IdStep::RetryAck(txn, _) => Some(IdKey::Request(sides, txn)),
         IdStep::Complete(txn) => Some(IdKey::Request(sides, txn)),
@@ -394,7 +395,7 @@ fn named_key(event: &LineEvent) -> Option<IdKey> {
 fn named_line(event: &LineEvent) -> Option<CacheLine> {
     match event.step {
         IdStep::Attempt(_, _, line) => Some(line),
-        IdStep::Again(_, _, line, _) => Some(line),
+        IdStep::Resent(_, _, line, _) => Some(line),
         IdStep::Snoop(_, _, line) => Some(line),
         IdStep::UnknownRequest(_, line, _) => Some(line),
         IdStep::UnknownSnoop(_, line) => Some(line),

@@ -5,7 +5,9 @@ ghost use Rattle.chi_observe.specs.declared.watch.WatchStop.TheVariants.{NoMemor
 ghost use Rattle.chi_observe.specs.Ids.{opened_at, with_id, without};
 ghost use Rattle.chi_observe.specs.Credits.{booked, booked_all};
 ghost use Rattle.chi_observe.specs.Lines.{lines_in};
-ghost use Rattle.chi_observe.specs.Steps.{granted, ids_after, returned, table_of};
+ghost use Rattle.chi_observe.specs.Grants.{granted, returned};
+ghost use Rattle.chi_observe.specs.Steps.{ids_after};
+ghost use Rattle.chi_observe.specs.Tables.{table_of};
 ghost use Rattle.chi_observe.specs.Watched.{IsCreditWatched, IsFlitWatched, IsWatched, access_after, agent_in, allowed, booking_after, counts_after, counts_aside, counts_first, mark_of, nothing_watched, settled, table_in, watched};
 
 use crate::credits::{AccountTable, Booking, account_numbers};
@@ -14,7 +16,8 @@ use crate::ids::{CacheLine, IdKey, IdTable, OpenId, Sides, numbers_of};
 use crate::lines::{LineNews, LineStop, LineTable, is_aside, is_put_aside, tell};
 use crate::nodes::{add_home, add_requester, agent_of};
 use crate::reasons::{IdReason, LineReason};
-use crate::steps::{Change, Part, Tables, WatchOptions};
+use crate::steps::WatchOptions;
+use crate::tables::{Change, Part, Tables};
 use chi_flit::Agent;
 use chi_trace::{NodeId, PcrdType};
 use indexmap::IndexMap;

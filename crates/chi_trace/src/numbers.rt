@@ -53,12 +53,9 @@ fn with_digit(number: u64, digit: u8, most: u64) -> Option<u64>
     ensures read { result ≡ with_hex_digit most number digit }
     ensures fits { IfSome result (λ number. number ≤ most) }
 {
-    let more = u128::from(number) * 16 + u128::from(digit_value(digit)?);
-    if more <= u128::from(most) {
-        Some(more as u64)
-    } else {
-        None
-    }
+    let value = digit_value(digit)?;
+    let more = number.checked_mul(16)?.checked_add(u64::from(value))?;
+    if more <= most { Some(more) } else { None }
 }
 
 /// What a digit is worth.

@@ -1,0 +1,172 @@
+//! Data that come in beats.
+
+ghost use Rattle.std.specs.Prelude.{◌≡◌};
+ghost use Rattle.chi_observe.specs.Beats.{beat_of, first_beat, is_again, is_word_again, kept_with, lacking, lacks_some, later_beat, left_of, told_with, word_with, words_with};
+ghost use Rattle.chi_observe.specs.Tables.{table_of};
+
+use crate::events::Tells;
+use crate::ids::{CacheLine, IdKey, OpenId};
+use crate::reasons::IdReason;
+use crate::tables::{Change, Part, Tables, plain_change};
+use chi_flit::Data;
+use std::alloc::Allocator;
+
+/// Whether a beat has a word that doesn't lack.
+fn is_word_again(lacks: bool, there: bool) -> bool
+    ensures { result ≡ is_word_again lacks there }
+{
+    there && !lacks
+}
+
+/// Whether a beat has some word that doesn't lack.
+fn is_again(lacks: &[bool; 8], there: &[bool; 8]) -> bool
+    ensures { result ≡ is_again lacks.now there.now }
+{
+    let mut again = is_word_again(lacks[0], there[0]);
+    again |= is_word_again(lacks[1], there[1]);
+    again |= is_word_again(lacks[2], there[2]);
+    again |= is_word_again(lacks[3], there[3]);
+    again |= is_word_again(lacks[4], there[4]);
+    again |= is_word_again(lacks[5], there[5]);
+    again |= is_word_again(lacks[6], there[6]);
+    again |= is_word_again(lacks[7], there[7]);
+    again
+}
+
+/// Whether a word lacks behind a beat.
+fn lacking(lacks: bool, there: bool) -> bool
+    ensures { result ≡ lacking lacks there }
+{
+    lacks && !there
+}
+
+/// The words that lack behind a beat.
+fn left_of(lacks: &[bool; 8], there: &[bool; 8]) -> [bool; 8]
+    ensures { result ≡ left_of lacks.now there.now }
+{
+    [
+        lacking(lacks[0], there[0]),
+        lacking(lacks[1], there[1]),
+        lacking(lacks[2], there[2]),
+        lacking(lacks[3], there[3]),
+        lacking(lacks[4], there[4]),
+        lacking(lacks[5], there[5]),
+        lacking(lacks[6], there[6]),
+        lacking(lacks[7], there[7]),
+    ]
+}
+
+/// Whether some word lacks.
+fn lacks_some(left: &[bool; 8]) -> bool
+    ensures { result ≡ lacks_some left.now }
+{
+    left.iter().any(|lacks| *lacks)
+}
+
+/// A word of data behind a beat: the beat's, where it has it.
+fn word_with(old: u64, new: u64, there: bool) -> u64
+    ensures { result ≡ word_with old new there }
+{
+    if there { new } else { old }
+}
+
+/// The words of data behind a beat.
+fn words_with(old: &Data, new: &Data, there: &[bool; 8]) -> Data
+    ensures { result ≡ words_with old.now new.now there.now }
+{
+    [
+        word_with(old[0], new[0], there[0]),
+        word_with(old[1], new[1], there[1]),
+        word_with(old[2], new[2], there[2]),
+        word_with(old[3], new[3], there[3]),
+        word_with(old[4], new[4], there[4]),
+        word_with(old[5], new[5], there[5]),
+        word_with(old[6], new[6], there[6]),
+        word_with(old[7], new[7], there[7]),
+    ]
+}
+
+/// What data tell behind a beat with such words: in the form of their first beat.
+fn told_with(begun: Tells, beat: Tells, there: &[bool; 8]) -> Tells
+    ensures { result ≡ told_with begun beat there.now }
+{
+    begun.with_words(words_with(&begun.words(), &beat.words(), there))
+}
+
+/// The id's data lack these words yet, and tell this.
+fn kept_with(found: &OpenId, left: [bool; 8], tells: Tells) -> OpenId
+    ensures { result ≡ kept_with found.now left tells }
+{
+    OpenId {
+        lacks: Some(left),
+        begun: Some(tells),
+        ..*found
+    }
+}
+
+/// The id's first beat, behind which these words lack.
+fn first_beat(found: &OpenId, left: [bool; 8], tells: Tells) -> Change
+    ensures { result ≡ first_beat found.now left tells }
+{
+    let change = plain_change(found.line);
+    if lacks_some(&left) {
+        Change {
+            keeps: Some(kept_with(found, left, tells)),
+            part: Part::First,
+            ..change
+        }
+    } else {
+        Change {
+            frees: Some(found.key),
+            ..change
+        }
+    }
+}
+
+/// A later beat of the id, behind which these words lack and the data tell this.
+fn later_beat(found: &OpenId, left: [bool; 8], tells: Tells) -> Change
+    ensures { result ≡ later_beat found.now left tells }
+{
+    let change = plain_change(found.line);
+    if lacks_some(&left) {
+        Change {
+            keeps: Some(kept_with(found, left, tells)),
+            part: Part::Further,
+            ..change
+        }
+    } else {
+        Change {
+            frees: Some(found.key),
+            part: Part::Last(tells),
+            ..change
+        }
+    }
+}
+
+impl<A: Allocator> Tables<'_, A> {
+    /// A beat of data: it frees the id where no word lacks any more.
+    pub(crate) fn beat(
+        &self,
+        key: IdKey,
+        there: &[bool; 8],
+        at: Option<CacheLine>,
+        tells: Tells,
+    ) -> Result<Change, IdReason>
+        ensures { result ≡ beat_of (table_of self.now) key there.now at tells }
+    {
+        let found = self.named(key, at)?;
+        if found.purpose.is_unknown() {
+            return Ok(plain_change(found.line));
+        }
+        match found.lacks {
+            None => Ok(first_beat(&found, left_of(&[true; 8], there), tells)),
+            Some(lacks) => {
+                if is_again(&lacks, there) {
+                    return Err(IdReason::WordAgain(key));
+                }
+                let told = told_with(found.begun.unwrap_or(tells), tells, there);
+                Ok(later_beat(&found, left_of(&lacks, there), told))
+            }
+        }
+    }
+}
