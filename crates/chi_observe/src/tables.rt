@@ -6,7 +6,9 @@ ghost use Rattle.chi_observe.specs.Tables.{booking_of, freed, freed_key, in_line
 
 use crate::credits::{AccountTable, Booking, CreditEvent, find_account};
 use crate::events::Tells;
-use crate::ids::{CacheLine, IdKey, IdTable, OpenId, Purpose, Sides, find_id, is_alike, opened_id, sides_of};
+use crate::ids::{
+    CacheLine, IdKey, IdTable, OpenId, Purpose, Sides, find_id, is_alike, opened_id, sides_of,
+};
 use crate::lines::{LineTable, is_aside};
 use crate::reasons::IdReason;
 use crate::steps::WatchOptions;
@@ -201,7 +203,11 @@ impl<A: Allocator> Tables<'_, A> {
     }
 
     /// The DBID that a completion opens, where a CompAck or write data follow.
-    pub(crate) fn new_buffer(&self, found: &OpenId, dbid: Option<DbId>) -> Result<Option<OpenId>, IdReason>
+    pub(crate) fn new_buffer(
+        &self,
+        found: &OpenId,
+        dbid: Option<DbId>,
+    ) -> Result<Option<OpenId>, IdReason>
         ensures { result ≡ new_buffer (table_of self.now) found.now dbid }
     {
         if found.purpose.is_kept_for() {

@@ -64,7 +64,12 @@ impl<A: Allocator> Tables<'_, A> {
 
     /// A snoop that isn't known, or to a line that is set aside.
     #[tactic(auto, unfolding(crate::specs::Unknown::unknown_snoop))]
-    pub(crate) fn unknown_snoop(&self, sides: Sides, txn: TxnId, line: CacheLine) -> Result<Change, IdReason>
+    pub(crate) fn unknown_snoop(
+        &self,
+        sides: Sides,
+        txn: TxnId,
+        line: CacheLine,
+    ) -> Result<Change, IdReason>
         ensures { result ≡ unknown_snoop (table_of self.now) sides txn line }
     {
         let key = self.new_id(IdKey::Snoop(sides, txn))?;
@@ -88,7 +93,11 @@ impl<A: Allocator> Tables<'_, A> {
     }
 
     /// An answer that isn't known: of the line alone.
-    pub(crate) fn unknown_answer(&self, key: IdKey, at: Option<CacheLine>) -> Result<Change, IdReason>
+    pub(crate) fn unknown_answer(
+        &self,
+        key: IdKey,
+        at: Option<CacheLine>,
+    ) -> Result<Change, IdReason>
         ensures { result ≡ unknown_answer (table_of self.now) key at }
     {
         let found = self.unknown_named(key, at)?;

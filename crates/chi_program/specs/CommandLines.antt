@@ -62,9 +62,9 @@ chart_line = with_rule (with_rule (with_rule (new_app (codes "chart")) file_rule
 abbrev pub explain_line : App
 explain_line = with_rule (with_rule (with_rule (with_rule (with_rule (with_rule (new_app (codes "explain")) file_rule) (option_rule (codes "types"))) (option_rule (codes "stores"))) (flag_rule (codes "early-grants"))) (flag_rule (codes "complete"))) (option_rule (codes "line"))
 
--- `observe FILE [--types T] [--early-grants] [--complete] [--context N]`
+-- `observe FILE [--types T] [--early-grants] [--complete] [--context N] [--progress]`
 abbrev pub observe_line : App
-observe_line = with_rule (with_rule (with_rule (with_rule (with_rule (new_app (codes "observe")) file_rule) (option_rule (codes "types"))) (flag_rule (codes "early-grants"))) (flag_rule (codes "complete"))) (option_rule (codes "context"))
+observe_line = with_rule (with_rule (with_rule (with_rule (with_rule (with_rule (new_app (codes "observe")) file_rule) (option_rule (codes "types"))) (flag_rule (codes "early-grants"))) (flag_rule (codes "complete"))) (option_rule (codes "context"))) (flag_rule (codes "progress"))
 
 -- `storm FILE [--seed N] [--turns N]`
 abbrev pub storm_line : App
@@ -114,7 +114,7 @@ pub data AskedCommand : Type 0 where
   check : List Text → Bool → AskedCommand
   chart : Text → Option Line → RowRange → AskedCommand
   explain : Text → Types → StoreListing → (early complete : Bool) → Option Address → AskedCommand
-  observe : Text → Types → (early complete : Bool) → (context : ℕ) → AskedCommand
+  observe : Text → Types → (early complete : Bool) → (context : ℕ) → (progress : Bool) → AskedCommand
   storm : Text → ℕ → ℕ → AskedCommand
   cover : List Text → (missing : Bool) → CellForm → (merge : Bool) → (least : ℕ) → AskedCommand
   draw : Text → ℕ → ℕ → ℕ → (weights kinds : Option Text) → Bool → AskedCommand
@@ -152,7 +152,7 @@ observe_in rows = do
   path ← first_of (codes "FILE") rows
   types ← watched_types_option (first_of (codes "types") rows)
   context ← context_option (first_of (codes "context") rows)
-  Some (observe path types (is_given (first_of (codes "early-grants") rows)) (is_given (first_of (codes "complete") rows)) context)
+  Some (observe path types (is_given (first_of (codes "early-grants") rows)) (is_given (first_of (codes "complete") rows)) context (is_given (first_of (codes "progress") rows)))
 
 -- behind `storm` stand the path and the options
 abbrev pub storm_asked : List Row → Option AskedCommand
@@ -215,7 +215,7 @@ asked_by (Replay path) = replay path.now
 asked_by (Check paths tap) = check (map (λ path. path.now) paths.items) tap
 asked_by (Chart path only rows) = chart path.now only rows
 asked_by (Explain path types stores early complete only) = explain path.now types stores early complete only
-asked_by (Observe path types early complete context) = observe path.now types early complete context
+asked_by (Observe path types early complete context progress) = observe path.now types early complete context progress
 asked_by (Storm path seed turns) = storm path.now seed turns
 asked_by (Cover paths missing form merge least) = cover (map (λ path. path.now) paths.items) missing form merge least
 asked_by (Draw header seed commands wild weights kinds drain) =

@@ -55,8 +55,8 @@ pub enum Job<'a> {
         /// The address of the line whose explanation is written as a check file, where one is given.
         only: Option<Address>,
     },
-    /// `observe FILE [--types two|four|any] [--early-grants] [--complete] [--context N]`: judges the trace at this path,
-    /// whatever its home and its caches are.
+    /// `observe FILE [--types two|four|any] [--early-grants] [--complete] [--context N] [--progress]`: judges the trace
+    /// at this path, whatever its home and its caches are.
     Observe {
         path: &'a str,
         /// Which types of credit it has; any where it isn't given.
@@ -67,6 +67,8 @@ pub enum Job<'a> {
         complete: bool,
         /// How many flits of a line are told with a fault, from 1 to 64; 0 where it isn't given.
         context: u64,
+        /// Whether it is told how far the reading has come.
+        progress: bool,
     },
     /// `storm FILE [--seed N] [--turns N]`: runs the scripts of the file at this path in threads.
     Storm {
@@ -212,6 +214,8 @@ const COMPLETE: &str = "complete";
 /// The option that says how many flits of a line are told with a fault.
 const CONTEXT: &str = "context";
 
+const PROGRESS: &str = "progress";
+
 /// The option that says how many commands are drawn.
 const COMMANDS: &str = "commands";
 
@@ -299,7 +303,8 @@ fn observe_command<'a>(alloc: Global) -> Result<Command<'a>, AllocError>
         .arg(option(alloc, TYPES))?
         .arg(flag(alloc, EARLY_GRANTS))?
         .arg(flag(alloc, COMPLETE))?
-        .arg(option(alloc, CONTEXT))
+        .arg(option(alloc, CONTEXT))?
+        .arg(flag(alloc, PROGRESS))
 }
 
 /// The command line of `storm`.
@@ -486,12 +491,14 @@ fn read_observe<'a>(matches: &ArgMatches<'a>) -> Option<Job<'a>>
     let early_grants = is_given(text_of(matches, EARLY_GRANTS));
     let complete = is_given(text_of(matches, COMPLETE));
     let context = context(text_of(matches, CONTEXT))?;
+    let progress = is_given(text_of(matches, PROGRESS));
     Some(Job::Observe {
         path,
         types,
         early_grants,
         complete,
         context,
+        progress,
     })
 }
 

@@ -9,6 +9,7 @@ mod jobs;
 mod looks;
 mod options;
 mod program;
+mod progress;
 mod usages;
 
 pub use faults::ArgFault;

@@ -16,11 +16,12 @@ use crate::faults::ArgFault;
 use crate::jobs::{Job, arguments};
 use crate::looks::{lacks_line, wants_answer};
 use crate::options::{CellForm, RowRange};
+use crate::progress::Ticker;
 use crate::usages::{usage, version};
 use chi_chart::{ChartPart, chart};
 use chi_coverage::{CoverForm, CoverShape, cover, merge};
 use chi_flit::Line;
-use chi_observe::{CreditTypes, Nobody, ObserveOutcome, WatchOptions, observe};
+use chi_observe::{CreditTypes, ObserveOutcome, Progress, WatchOptions, observe};
 use chi_replay::{SuiteFile, SuiteForm, check, check_suite, replay};
 use chi_resolution::{Options, Types};
 use chi_script::{
@@ -134,14 +135,16 @@ impl End {
 }
 
 /// Does what the command line asks for, and answers the exit status. A fault is one line on standard
-/// error. It may wait: a storm's agents run in threads.
+/// error, of which the caller says whether it is a terminal: only there it is told how far a job has come. It may
+/// wait: a storm's agents run in threads.
 /// Source: `docs/FORMATS.md`, "The program".
 pub fn serve<R: Env + Files + AllocGlobal + Print + Eprint + Threads + Wait + Clock + Sync>(
     rt: &R,
+    is_terminal: bool,
 ) -> u8
     ensures { Contains statuses result }
 {
-    report_end(rt, follow(rt))
+    report_end(rt, follow(rt, is_terminal))
 }
 
 /// The exit status of a run, which came to an end or was stopped. A stop is told on standard error.
@@ -160,18 +163,20 @@ fn report_end<R: Eprint>(rt: &R, run: Result<End, Stop>) -> u8
 /// Reads the command line, and does what it asks for.
 fn follow<R: Env + Files + AllocGlobal + Print + Eprint + Threads + Wait + Clock + Sync>(
     rt: &R,
+    is_terminal: bool,
 ) -> Result<End, Stop> {
     let texts = match env::args(rt) {
         Ok(given) => arguments_of(rt.alloc(), given)?,
         Err(error) => return Err(Stop::Arguments(fault_of(error.kind()))),
     };
     let words = words_of(rt.alloc(), &texts)?;
-    work(rt, arguments(rt.alloc(), &words)?)
+    work(rt, is_terminal, arguments(rt.alloc(), &words)?)
 }
 
 /// Does a job.
 fn work<R: Files + AllocGlobal + Print + Eprint + Threads + Wait + Clock + Sync>(
     rt: &R,
+    is_terminal: bool,
     job: Job<'_>,
 ) -> Result<End, Stop> {
     match job {
@@ -200,12 +205,14 @@ fn work<R: Files + AllocGlobal + Print + Eprint + Threads + Wait + Clock + Sync>
             early_grants,
             complete,
             context,
+            progress,
         } => {
             let options = WatchOptions {
                 types: types_watched(types),
                 early_grants,
             };
-            Ok(observe_file(rt, path, options, complete, context)?)
+            let mut ticker = Ticker::new(rt, progress && is_terminal);
+            Ok(observe_file(rt, path, options, complete, context, &mut ticker)?)
         }
         Job::Storm { path, seed, turns } => Ok(storm_file(rt, path, seed, turns)?),
         Job::Cover {
@@ -727,12 +734,13 @@ fn types_watched(types: Types) -> CreditTypes
 }
 
 /// Writes to standard output what comes of the trace at the path; of a malformed one a line is on standard error.
-fn observe_file<R: Files + AllocGlobal + Print + Eprint>(
+fn observe_file<R: Files + AllocGlobal + Print + Eprint, P: Progress>(
     rt: &R,
     path: &str,
     options: WatchOptions,
     complete: bool,
     context: u64,
+    progress: &mut P,
 ) -> Result<End, Fault> {
     let mut input = match FileInput::open(rt, file_of(path)) {
         Ok(input) => input,
@@ -748,7 +756,7 @@ fn observe_file<R: Files + AllocGlobal + Print + Eprint>(
         options,
         complete,
         context,
-        &mut Nobody,
+        progress,
     ) {
         Ok(report) => report,
         Err(Fault::Read) => return tell_unread(rt, path),

@@ -4,8 +4,9 @@
 #![tactic(auto)]
 
 use chi_program::serve;
+use std::io::IsTerminal;
 use std::process::ExitCode;
 
 fn main(rt: HostRuntime) -> ExitCode {
-    ExitCode::from(serve(&rt))
+    ExitCode::from(serve(&rt, rt.stderr().is_terminal()))
 }

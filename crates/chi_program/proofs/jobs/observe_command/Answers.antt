@@ -11,4 +11,5 @@ returns c =
     let line_2 : IsCommand (with_rule (with_rule (new_app (codes "observe")) file_rule) (option_rule (codes "types"))) c.in_ok-arg-2.field-0 = with_one _ _ c.in_ok-arg.field-0 c.option.result _ line_1 c.option.ensures.rule c.option.ensures.local c.in_ok-arg-2.ensures in
     let line_3 : IsCommand (with_rule (with_rule (with_rule (new_app (codes "observe")) file_rule) (option_rule (codes "types"))) (flag_rule (codes "early-grants"))) c.in_ok-arg-3.field-0 = with_one _ _ c.in_ok-arg-2.field-0 c.flag.result _ line_2 c.flag.ensures.rule c.flag.ensures.local c.in_ok-arg-3.ensures in
     let line_4 : IsCommand (with_rule (with_rule (with_rule (with_rule (new_app (codes "observe")) file_rule) (option_rule (codes "types"))) (flag_rule (codes "early-grants"))) (flag_rule (codes "complete"))) c.in_ok-arg-4.field-0 = with_one _ _ c.in_ok-arg-3.field-0 c.flag-2.result _ line_3 c.flag-2.ensures.rule c.flag-2.ensures.local c.in_ok-arg-4.ensures in
-    with_final _ _ c.in_ok-arg-4.field-0 c.option-2.result c.arg-5.result line_4 c.option-2.ensures.rule c.option-2.ensures.local c.arg-5.ensures
+    let line_5 : IsCommand (with_rule (with_rule (with_rule (with_rule (with_rule (new_app (codes "observe")) file_rule) (option_rule (codes "types"))) (flag_rule (codes "early-grants"))) (flag_rule (codes "complete"))) (option_rule (codes "context"))) c.in_ok-arg-5.field-0 = with_one _ _ c.in_ok-arg-4.field-0 c.option-2.result _ line_4 c.option-2.ensures.rule c.option-2.ensures.local c.in_ok-arg-5.ensures in
+    with_final _ _ c.in_ok-arg-5.field-0 c.flag-3.result c.arg-6.result line_5 c.flag-3.ensures.rule c.flag-3.ensures.local c.arg-6.ensures
