@@ -9,7 +9,7 @@ use Rattle.chi_flit.specs.declared.numbers.Line.{Line}
 use Rattle.chi_flit.specs.declared.refusal.Refusal.{Refusal}
 use Rattle.chi_flit.specs.declared.refusal.Refusal.TheVariants.{MustAccept, OutOfRange}
 use Rattle.chi_slice.specs.Words.{Serving, Sizes, cells_of, flit_of, flits_sent, no_flit_unless, retry_refusal}
-use Rattle.chi_slice.specs.Sendings.{message_taken}
+use Rattle.chi_library.specs.Taken.{message_taken}
 use Rattle.chi_slice.specs.Slice.{SliceKept, SliceState, action_refusal, is_line_in_range, line, opening_slice, slice_after}
 use Rattle.chi_slice.proofs.Refused.{on_terms_is, refused_is}
 use Rattle.chi_slice.proofs.Refusing.{allowed_alone}

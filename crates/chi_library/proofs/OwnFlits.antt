@@ -22,7 +22,7 @@ use Rattle.chi_slice.specs.Words.{has_any, no_flits, with_message, cells_at, Ser
 use Rattle.chi_slice.specs.Servings.{Idle, Snooping}
 use Rattle.chi_slice.specs.Starts.{Sends, Snoops}
 use Rattle.chi_slice.proofs.Passed.{IsRetried, dbid_there, flit_there, may_resend, IsSnooping, is_snooping, snoop_no_response, AnswerRow, answer_row, is_up, idle_is, response_finds_pending, CanStart, can_start}
-use Rattle.chi_slice.specs.Sendings.{message_taken}
+use Rattle.chi_library.specs.Taken.{message_taken}
 use Rattle.chi_library.specs.declared.flits.ChiFlit.{ChiFlit}
 use Rattle.chi_library.specs.Flits.{taken_told}
 use Rattle.chi_library.specs.Standing.{ack_standing, completion_standing, down_on, line_standing, snoops_standing, start_standing, up_on, words_due}

@@ -15,6 +15,7 @@ pub mod SavedSlices
 pub mod Listed
 pub mod Enabled
 pub mod Standing
+pub mod Taken
 pub mod Observed
 pub mod MonitorHandle
 pub mod MonitorFacts

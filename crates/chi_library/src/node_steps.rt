@@ -14,7 +14,7 @@ ghost use Rattle.chi_library.specs.Standing.{line_standing, told_or};
 ghost use Rattle.chi_node.specs.Calls.{arrival_action, arrival_step, is_own_step};
 ghost use Rattle.chi_node.specs.Home.{node_flits_refusal, node_line, slice_of};
 ghost use Rattle.chi_node.specs.System.{ArrivesIn, StepsIn, arrive_refusal, system_step_refusal};
-ghost use Rattle.chi_slice.specs.Sendings.{message_taken};
+ghost use Rattle.chi_library.specs.Taken.{message_taken};
 ghost use Rattle.chi_slice.specs.Slice.{SliceKept};
 ghost use Rattle.chi_slice.specs.Words.{cells_of, flit_of};
 

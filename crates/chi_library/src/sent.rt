@@ -7,7 +7,7 @@ ghost use Rattle.chi_slice.specs.Words.{completion_message, answer_in, cell_of, 
 ghost use Rattle.chi_library.specs.Flits.{no_sent, sent_told};
 ghost use Rattle.chi_library.specs.Listed.{IsListed};
 ghost use Rattle.chi_library.specs.Standing.{ack_standing, cell_standing, completion_standing, down_on, first_request, message_on, read_data, snoops_standing, start_standing, told_or, up_on, words_due};
-ghost use Rattle.chi_slice.specs.Sendings.{answer_message, message_taken};
+ghost use Rattle.chi_library.specs.Taken.{answer_message, message_taken};
 
 use crate::flits::{
     ChiFlit, ChiSent, put_cell, tell_dat_down, tell_req, tell_rsp_down, tell_rsp_up, tell_snoop,

@@ -13,7 +13,7 @@ use Rattle.chi_flit.specs.declared.message.RspDown.{RspDown}
 use Rattle.chi_flit.specs.declared.message.RspDown.TheVariants.{RetryAck, CompUC, CompI, CompDBIDResp}
 use Rattle.chi_flit.specs.Credit.{credit_type_of}
 use Rattle.chi_line.specs.declared.position.Position.{Position}
-use Rattle.chi_line.specs.declared.position.Position.TheVariants.{Sent, Refused, Retried, Riding, Admitted, Answered, Closing}
+use Rattle.chi_line.specs.declared.position.Position.TheVariants.{Sent, Refused, Retried, Resent, Admitted, Answered, Closing}
 use Rattle.chi_line.specs.LineState.{LineState, cells_of}
 use Rattle.chi_line.specs.Moves.{if_moved, moved_slot, moved_to}
 use Rattle.chi_line.specs.Places.{position_at}
@@ -33,7 +33,7 @@ always_moves other = true
 -- where a request in flight is
 abbrev pub flit_at : Option Request → Option Position
 flit_at None = None
-flit_at (Some request) = if request.allow_retry then Some Sent else Some Riding
+flit_at (Some request) = if request.allow_retry then Some Sent else Some Resent
 
 -- RecvComp: Comp_UC answers a request that is at the home, and Comp_I ends one that is closing
 abbrev pub completed_from : Option RspDown → Option Position

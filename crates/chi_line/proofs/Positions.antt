@@ -68,7 +68,7 @@ waits_at_home (Some q) served request slot same fits away =
     let here : Some request.slot ≡ Some q.slot = fits q refl in
     absurd (search (arith, here, same, away))
 
-in_flight : (allow_retry : Bool) → (if allow_retry then Some places.Sent else Some places.Riding) ≡ None → ⊥
+in_flight : (allow_retry : Bool) → (if allow_retry then Some places.Sent else Some places.Resent) ≡ None → ⊥
 in_flight true none = cc (none)
 in_flight false none = cc (none)
 

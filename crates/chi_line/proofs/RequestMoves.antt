@@ -164,7 +164,7 @@ is_retried_by : (p : Option Pending) → IsRetried p → is_retried p ≡ true
 is_retried_by p may = ap is_retried may.is ∙ ap is_retried_phase may.phase
 
 resend_shows : (last : List ℕ) (s : LineState) (n : ℕ) (there : Option Pending) → Here last s n → (rn_of s n).pending ≡ there → IsRetried there
-    → Shows s (where_some s there (resent_line s n)) n (pending_slot (rn_of s n).pending) (Some places.Retried) (Some places.Riding)
+    → Shows s (where_some s there (resent_line s n)) n (pending_slot (rn_of s n).pending) (Some places.Retried) (Some places.Resent)
 resend_shows last s n None h here may = absurd (cc (may.is))
 resend_shows last s n (Some request) h here may =
     shows_by _ _ _ _ _ _
@@ -476,7 +476,7 @@ no_flit : (request : Option Request) (slot : Slot) → is_slot (requested_slot r
 no_flit None slot is none = cc (is)
 no_flit (Some request) slot is none = go request.allow_retry none
   where
-    go : (b : Bool) → (if b then Some places.Sent else Some places.Riding) ≡ None → ⊥
+    go : (b : Bool) → (if b then Some places.Sent else Some places.Resent) ≡ None → ⊥
     go true none = cc (none)
     go false none = cc (none)
 

@@ -15,7 +15,7 @@ use Rattle.chi_rnline.specs.declared.pending.Phase.TheVariants as phases
 use Rattle.chi_rnline.specs.Rn.{in_phase}
 use Rattle.chi_homeline.specs.declared.serving.Waiting.{Waiting}
 use Rattle.chi_line.specs.declared.position.Position.{Position}
-use Rattle.chi_line.specs.declared.position.Position.TheVariants.{Sent, Refused, Retried, Riding, Admitted, Answered, Closing}
+use Rattle.chi_line.specs.declared.position.Position.TheVariants.{Sent, Refused, Retried, Resent, Admitted, Answered, Closing}
 use Rattle.chi_line.specs.Kept.{is_retried, is_retried_phase}
 use Rattle.chi_line.proofs.MoveLaw.{flit_at}
 use Rattle.chi_line.specs.Places.{is_at_home, phase_at, RequestsShown, sent_at, unasked_at, position_by, position_in}
@@ -137,7 +137,7 @@ pub retry_seen : (x : RequestsShown) (request : Request) (ty : CreditType) → x
     → ((slot : Slot) → is_slot (pending_slot x.pending) slot ≡ true → is_at_home x slot ≡ false)
     → SeenMoved x (record x { request = None; response = Some (RetryAck ty) }) (Some request.slot) (Some Sent) (Some Refused)
 retry_seen x request ty here may pending sent away = record {
-  found = λ slot is. sent_in x slot (own slot is) sent ∙ (ap (λ (q : Option Request). sent_at q (is_at_home x slot) x.response) here ∙ ap (λ (b : Bool). if b then Some Sent else Some Riding) may);
+  found = λ slot is. sent_in x slot (own slot is) sent ∙ (ap (λ (q : Option Request). sent_at q (is_at_home x slot) x.response) here ∙ ap (λ (b : Bool). if b then Some Sent else Some Resent) may);
   left = λ slot is. sent_in (record x { request = None; response = Some (RetryAck ty) }) slot (own slot is) sent ∙ ap (λ (b : Bool). sent_at None b (Some (RetryAck ty))) (away slot (own slot is));
   stay = λ slot other. let gone : is_slot (pending_slot x.pending) slot ≡ false = pending_by (pending_slot x.pending) (Some request.slot) slot false pending other in
       unasked_stays x (record x { request = None; response = Some (RetryAck ty) }) slot gone gone refl;
@@ -175,7 +175,7 @@ retried_seen x ty none here sent away = record {
 
 -- Resend
 pub resent_seen : (x : RequestsShown) (request : Pending) → x.pending ≡ Some request → is_retried x.pending ≡ true
-    → SeenMoved x (record x { pending = in_phase phases.Sent x.pending; request = Some (record { kind = request.kind; slot = request.slot; allow_retry = false }) }) (pending_slot x.pending) (Some Retried) (Some Riding)
+    → SeenMoved x (record x { pending = in_phase phases.Sent x.pending; request = Some (record { kind = request.kind; slot = request.slot; allow_retry = false }) }) (pending_slot x.pending) (Some Retried) (Some Resent)
 resent_seen x request here retried = record {
   found = λ slot is. retried_in x slot is retried;
   left = λ slot is. sent_in (after) slot

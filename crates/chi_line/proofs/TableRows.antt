@@ -124,13 +124,13 @@ shows_responded last s n slot response there no_unique no_dbid own k =
     ∙ ap (λ (o : Option RspDown). response_at o) there))
 
 -- a request that is in flight is the pending one
-shows_in_flight : (last : List ℕ) (s : LineState) (n : ℕ) (slot : Slot) (allow_retry : Bool) → IsInFlight allow_retry s n slot → LaneOf last s n → position_at s n slot ≡ (if allow_retry then Some places.Sent else Some places.Riding)
+shows_in_flight : (last : List ℕ) (s : LineState) (n : ℕ) (slot : Slot) (allow_retry : Bool) → IsInFlight allow_retry s n slot → LaneOf last s n → position_at s n slot ≡ (if allow_retry then Some places.Sent else Some places.Resent)
 shows_in_flight last s n slot allow_retry there k =
     let own : IsPending s n slot = k.request_slot there.0 there.1 ∙ ap (λ (x : Slot). Some x) there.2 in
     let trail : Trail s.home.serving n (lane s n) true false false false false = requested_trail s.home.serving s.home.filter.unique s.home.filter.owner last n (lane s n) (ap (λ (o : Option Request). is_some o) there.1) k in
     shows_sent (rn_of s n).pending (agent_seen s n) slot own trail.phase
     ∙ (ap (λ (q : Option Request). sent_at q (is_at_home (agent_seen s n) slot) (cells_of s n).rsp_down) there.1
-    ∙ ap (λ (b : Bool). if b then Some places.Sent else Some places.Riding) there.3)
+    ∙ ap (λ (b : Bool). if b then Some places.Sent else Some places.Resent) there.3)
 
 -- a pending request that is at the home isn't in flight, nor retried
 record Housed (n : ℕ) (x : Lane) : Type 0 where
@@ -192,7 +192,7 @@ row_shows : (last : List ℕ) (s : LineState) (n : ℕ) (slot : Slot) (at : Posi
 row_shows last s n slot places.Sent k row = shows_in_flight last s n slot true row k
 row_shows last s n slot places.Refused k row = shows_responded last s n slot (RetryAck row.1.0) row.1.1 refl refl row.0 k
 row_shows last s n slot places.Retried k row = shows_retried (rn_of s n).pending (agent_seen s n) slot row.0 row.1
-row_shows last s n slot places.Riding k row = shows_in_flight last s n slot false row k
+row_shows last s n slot places.Resent k row = shows_in_flight last s n slot false row k
 row_shows last s n slot places.Admitted k row = shows_admitted last s n slot row.0 row.1 k
 row_shows last s n slot places.Answered k row = shows_answered s n slot row.0 row.1
 row_shows last s n slot places.Closing k row = shows_responded last s n slot CompI row.2 refl refl row.0 k
@@ -223,7 +223,7 @@ holds_sent last s n slot (Some request) there own k = go request.allow_retry ref
     same : request.slot ≡ slot
     same = equal_slots (pending_slot (rn_of s n).pending) request.slot slot (k.request_slot request there) own
 
-    go : (b : Bool) → request.allow_retry ≡ b → Holds s n slot (if b then Some places.Sent else Some places.Riding)
+    go : (b : Bool) → request.allow_retry ≡ b → Holds s n slot (if b then Some places.Sent else Some places.Resent)
     go true is = (request, there, same, is)
     go false is = (request, there, same, is)
 holds_sent last s n slot None there own k = go (is_at_home (agent_seen s n) slot) refl

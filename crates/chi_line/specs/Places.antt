@@ -10,7 +10,7 @@ use Rattle.chi_rnline.specs.declared.pending.Phase.TheVariants as phases
 use Rattle.chi_homeline.specs.declared.serving.Waiting.{Waiting}
 use Rattle.chi_homeline.specs.Home.{waiting_of}
 use Rattle.chi_line.specs.declared.position.Position.{Position}
-use Rattle.chi_line.specs.declared.position.Position.TheVariants.{Sent, Refused, Retried, Riding, Admitted, Answered, Closing}
+use Rattle.chi_line.specs.declared.position.Position.TheVariants.{Sent, Refused, Retried, Resent, Admitted, Answered, Closing}
 use Rattle.chi_line.specs.LineState.{LineState, rn_of, cells_of}
 use Rattle.chi_line.specs.Step.{is_slot, slot_served_for, waiting_slot}
 
@@ -45,7 +45,7 @@ response_at other = None
 
 -- where a request is that was sent: in flight, else at the home, else answered by a response
 abbrev pub sent_at : Option Request → Bool → Option RspDown → Option Position
-sent_at (Some request) at_home response = if request.allow_retry then Some Sent else Some Riding
+sent_at (Some request) at_home response = if request.allow_retry then Some Sent else Some Resent
 sent_at None true response = Some Admitted
 sent_at None false response = response_at response
 

@@ -9,7 +9,7 @@ use Rattle.chi_flit.specs.declared.message.Request.{Request}
 use Rattle.chi_flit.specs.declared.message.RspDown.TheVariants.{RetryAck, CompI}
 use Rattle.chi_homeline.specs.Home.{waiting_of}
 use Rattle.chi_line.specs.declared.position.Position.{Position}
-use Rattle.chi_line.specs.declared.position.Position.TheVariants.{Sent, Refused, Retried, Riding, Admitted, Answered, Closing}
+use Rattle.chi_line.specs.declared.position.Position.TheVariants.{Sent, Refused, Retried, Resent, Admitted, Answered, Closing}
 use Rattle.chi_line.specs.LineState.{LineState, rn_of, cells_of}
 use Rattle.chi_line.specs.Step.{pending_slot, slot_served_for, waiting_slot}
 use Rattle.chi_line.specs.Kept.{is_retried, kind_if}
@@ -39,7 +39,7 @@ abbrev pub IsAt : LineState → ℕ → Slot → Position → Type 0
 IsAt s n slot Sent = IsInFlight true s n slot
 IsAt s n slot Refused = IsPending s n slot × HasRetryAck s n
 IsAt s n slot Retried = IsPending s n slot × (is_retried (rn_of s n).pending ≡ true)
-IsAt s n slot Riding = IsInFlight false s n slot
+IsAt s n slot Resent = IsInFlight false s n slot
 IsAt s n slot Admitted = IsAtHome s n slot × IsPending s n slot
 IsAt s n slot Answered = IsAtHome s n slot × (pending_slot (rn_of s n).pending ≢ Some slot)
 IsAt s n slot Closing = IsPending s n slot × (kind_if (rn_of s n).pending ≡ Some Evict) × HasCompI s n

@@ -31,7 +31,7 @@ pub enum Position {
     /// Pending in phase Retried.
     Retried,
     /// In flight, without AllowRetry.
-    Riding,
+    Resent,
     /// It waits or is served at the home, and is pending.
     Admitted,
     /// It is served at the home, and not pending any more.
@@ -188,7 +188,7 @@ fn sent_position(
 {
     match request {
         Some(request) if request.allow_retry => Some(Position::Sent),
-        Some(_) => Some(Position::Riding),
+        Some(_) => Some(Position::Resent),
         None if at_home => Some(Position::Admitted),
         None => response_position(response),
     }

@@ -14,7 +14,7 @@ ghost use Rattle.chi_line.specs.Moves.{requested_slot};
 ghost use Rattle.chi_line.specs.Step.{admitted_line, issued_line, pending_slot, resent_line, retried_line, retry_received_line, started_line, waiting_effect, where_some};
 ghost use Rattle.chi_line.specs.Traffic.{Balances, flit_on, request_again, retry_ack, started_flits};
 ghost use Rattle.chi_line.specs.Outcomes.{outcome_of_start, outcome_with_move};
-ghost use Rattle.chi_line.specs.declared.position.Position.TheVariants.{Admitted, Refused, Retried, Riding, Sent};
+ghost use Rattle.chi_line.specs.declared.position.Position.TheVariants.{Admitted, Refused, Retried, Resent, Sent};
 
 use crate::line::CoherentLine;
 use crate::position::{ActionOutcome, Position, pending_slot};
@@ -110,7 +110,7 @@ impl CoherentLine {
         requires pending { is_some (rn_of self.old agent.0).pending ≡ true }
         requires empty { (cells_of self.old agent.0).req ≡ None }
         ensures outcome { result
-            ≡ outcome_with_move (pending_slot (rn_of self.old agent.0).pending) (Some Riding) }
+            ≡ outcome_with_move (pending_slot (rn_of self.old agent.0).pending) (Some Resent) }
         ensures after { self.new
             ≡ where_some self.old (rn_of self.old agent.0).pending (resent_line self.old agent.0) }
         ensures flits { Balances [] (flit_of agent (request_again (rn_of self.old agent.0).pending)) self.old self.new }
@@ -121,7 +121,7 @@ impl CoherentLine {
         };
         let message = copy.resent(request);
         self.flits.put(agent, message);
-        ActionOutcome::with_move(Some(request.slot), Some(Position::Riding))
+        ActionOutcome::with_move(Some(request.slot), Some(Position::Resent))
     }
 
     /// Start: the home begins to serve the agent's waiting request, and what that sends is in flight. An

@@ -12,8 +12,8 @@ pub(crate) enum Stage {
     First,
     /// A RetryAck has come to it.
     Retried,
-    /// It was sent again, and is on its way or waits.
-    Again,
+    /// It was resent, and is on its way or waits.
+    Resent,
     /// It is served, or was completed.
     Served,
 }
@@ -85,7 +85,7 @@ impl KnownRequester {
     /// The kind of the request that is on its way or waits.
     pub fn waiting(&self) -> Option<Kind> {
         match self.asked {
-            Some(asked) if asked.stage == Stage::First || asked.stage == Stage::Again => {
+            Some(asked) if asked.stage == Stage::First || asked.stage == Stage::Resent => {
                 Some(asked.kind)
             }
             Some(_) | None => None,

@@ -1,4 +1,4 @@
-//! Requests that a line was sent: first attempts, their RetryAcks, and those that were sent again.
+//! Requests that a line was sent: first attempts, their RetryAcks, and those that were resent.
 //! Not trusted: chi_explain does again what the search finds, and compares.
 
 ghost use Rattle.std.specs.Prelude.{◌<◌};
@@ -55,7 +55,7 @@ impl<A: Allocator> Search<A> {
         Ok(())
     }
 
-    /// A request that is sent again, in its slot.
+    /// A request that is resent, in its slot.
     pub fn resend(&mut self, agent: Agent, kind: Kind, slot: Slot) -> Result<(), LineFault>
         requires { agent.0 < 8 }
     {
@@ -63,7 +63,7 @@ impl<A: Allocator> Search<A> {
         match side.asked {
             Some(asked)
                 if asked.stage == Stage::Retried && asked.kind == kind && asked.slot == slot => {
-                side.move_to(Stage::Again);
+                side.move_to(Stage::Resent);
                 self.put(agent, side);
                 self.act(agent, Step::Resend)
             }

@@ -73,11 +73,11 @@ retry_allowed s r l request can first =
 -- the slot of the request that arrives
 abbrev from_by : Bool → Position
 from_by true = places.Sent
-from_by false = places.Riding
+from_by false = places.Resent
 
 flit_from : (request : Request) (b : Bool) → request.allow_retry ≡ b → flit_at (Some request) ≡ Some (from_by b)
-flit_from request true is = ap (λ (b : Bool). if b then Some places.Sent else Some places.Riding) is
-flit_from request false is = ap (λ (b : Bool). if b then Some places.Sent else Some places.Riding) is
+flit_from request true is = ap (λ (b : Bool). if b then Some places.Sent else Some places.Resent) is
+flit_from request false is = ap (λ (b : Bool). if b then Some places.Sent else Some places.Resent) is
 
 ready_admit : (s : SliceState) (r : RequesterState) (l : Line) (request : Request) → CanArriveOn s r l request → Agree s r → Ready s (agent_of r) l steps.Admit r
 ready_admit s r l request can agrees = ready_by s (agent_of r) l steps.Admit r refl can.kept can.numbers (admit_allowed s r l request can) agrees can.requester
@@ -117,8 +117,8 @@ can_arrive s r l request can agrees types = go request.allow_retry refl
           types (type_at r.slots request.slot.0) (credit_below (slot_record_at r.slots request.slot.0).credit) (type_of_profile s r l request (slot_record_at r.slots request.slot.0).credit can own.typed),
         )
     go false is =
-        let own : Own s (agent_of r) l steps.Admit r places.Riding request.slot = own_admit s r l request false can agrees is in
-        tells_of (slot_record_at r.slots request.slot.0) places.Riding own.tells
+        let own : Own s (agent_of r) l steps.Admit r places.Resent request.slot = own_admit s r l request false can agrees is in
+        tells_of (slot_record_at r.slots request.slot.0) places.Resent own.tells
 
 -- the slot's record follows what arrives
 admits : (s : SliceState) (r r' : RequesterState) (l : Line) (request : Request) (b : Bool) (e : Entry) (port : PortView) (history : List Act) → CanArriveOn s r l request → Agree s r → request.allow_retry ≡ b → (slot_record_at r.slots request.slot.0).answered ≡ false

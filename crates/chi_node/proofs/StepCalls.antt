@@ -142,7 +142,7 @@ fine s agent l steps.RecvRetry r can =
 fine s agent l steps.Resend r can =
     let ready = ready_of s agent l steps.Resend r can in
     fine_step s agent l steps.Resend r ready (change_fine s agent l steps.Resend r places.Retried (CanResend r) (in_state states.Riding) ready refl refl refl
-    (λ slot its. ((tells_of (slot_record_at r.slots slot.0) places.Retried its.tells, has_credit s r agent l slot can its.is its.typed), restated (slot_record_at r.slots slot.0) states.Riding (Some places.Riding) refl)))
+    (λ slot its. ((tells_of (slot_record_at r.slots slot.0) places.Retried its.tells, has_credit s r agent l slot can its.is its.typed), restated (slot_record_at r.slots slot.0) states.Riding (Some places.Resent) refl)))
 fine s agent l steps.Cancel r can =
     let ready = ready_of s agent l steps.Cancel r can in
     fine_step s agent l steps.Cancel r ready (change_fine s agent l steps.Cancel r places.Retried (λ k. state_at r.slots k ≡ states.Retried) (in_state states.Cancelled) ready refl refl refl

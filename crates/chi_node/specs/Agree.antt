@@ -19,7 +19,7 @@ abbrev pub position_of_state : SlotState → Bool → Option Position
 position_of_state Sent answered = Some places.Sent
 position_of_state Refused answered = Some places.Refused
 position_of_state Retried answered = Some places.Retried
-position_of_state Riding answered = Some places.Riding
+position_of_state Riding answered = Some places.Resent
 position_of_state (Admitted entry) answered = if answered then Some places.Answered else Some places.Admitted
 position_of_state Closing answered = Some places.Closing
 position_of_state other answered = None

@@ -129,7 +129,7 @@ fn position_of_state(state: SlotState, answered: bool) -> Option<Position>
         SlotState::Sent => Some(Position::Sent),
         SlotState::Refused => Some(Position::Refused),
         SlotState::Retried => Some(Position::Retried),
-        SlotState::Riding => Some(Position::Riding),
+        SlotState::Riding => Some(Position::Resent),
         SlotState::Admitted(_) => Some(if answered {
             Position::Answered
         } else {

@@ -8,6 +8,7 @@
 //! Source: `docs/PROTOCOL.md`, "A requester and its calls".
 #![tactic(auto)]
 
+mod account_calls;
 mod agree;
 mod answers;
 mod arrivals;
@@ -15,7 +16,6 @@ mod calls;
 mod coherence;
 mod locks;
 mod meeting;
-mod moves;
 mod node;
 mod opening;
 mod own;

@@ -13,8 +13,6 @@ pub mod Servings
 pub mod Positions
 pub mod Phases
 pub mod Records
-pub mod Traffic
-pub mod Sendings
 pub mod Idle
 pub mod SnoopAnswers
 pub mod Starts

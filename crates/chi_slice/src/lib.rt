@@ -10,7 +10,6 @@ mod places;
 mod records;
 mod slice;
 mod terms;
-mod traffic;
 mod verdict;
 
 pub use agent_line::{AgentLine, AgentRow};
@@ -26,5 +25,4 @@ pub use places::RequestPlace;
 pub use records::is_step_in_range;
 pub use slice::Slice;
 pub use terms::{Done, Terms};
-pub use traffic::{FlitsSent, Traffic};
 pub use verdict::check;

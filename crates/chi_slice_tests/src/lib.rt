@@ -35,8 +35,6 @@ mod snapshots;
 #[cfg(test)]
 mod snoops;
 #[cfg(test)]
-mod traffic;
-#[cfg(test)]
 mod verdicts;
 #[cfg(test)]
 mod write_data;

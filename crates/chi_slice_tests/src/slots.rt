@@ -81,7 +81,7 @@ const READ_AND_EVICT: [Placed; 12] = [
     (READ, NOTHING, Some(Position::Sent)),
     (Step::Retry, NOTHING, Some(Position::Refused)),
     (Step::RecvRetry, NOTHING, Some(Position::Retried)),
-    (Step::Resend, NOTHING, Some(Position::Riding)),
+    (Step::Resend, NOTHING, Some(Position::Resent)),
     (Step::Admit, NOTHING, Some(Position::Admitted)),
     (Step::Start, NOTHING, Some(Position::Admitted)),
     (Step::RecvData, NOTHING, Some(Position::Answered)),

@@ -47,7 +47,7 @@ impl<A: Allocator> Slice<A> {
     }
 
     /// The line in a row, lent. Conditions: the row is one that `row_for` of this slice answered.
-    pub(crate) fn line_in(&self, at: AgentRow) -> &chi_line::CoherentLine
+    fn line_in(&self, at: AgentRow) -> &chi_line::CoherentLine
         requires row { IsRow self.now at }
         requires inside { CanAct self.now at }
         ensures { result.now ≡ line_of_slice self.now at.line.0 }

@@ -3,11 +3,10 @@ use Rattle.std.proofs.Common.{rules, ◌≡◌, ◌∙◌, Some, None, ap}
 use Rattle.chi_library.specs.declared.flits.ChiSent.{ChiSent}
 use Rattle.chi_library.specs.Flits.{no_sent}
 use Rattle.chi_library.specs.Standing.{told_or}
-use Rattle.chi_library.proofs.SentShown.{sent_is, taken_is, told_is}
-use Rattle.chi_slice.specs.Sendings.{message_taken}
+use Rattle.chi_library.proofs.SentShown.{sent_is, taken_is, told_is, unseen_refused}
+use Rattle.chi_library.specs.Taken.{message_taken}
 use Rattle.chi_slice.specs.Slice.{action_in, action_refusal, line, slice_after}
 use Rattle.chi_slice.specs.Words.{Cells, cells_of, flit_of}
-use Rattle.chi_slice.proofs.Sendings.{unseen_refused}
 use Rattle.chi_library.proofs.steps.act_telling.Goals as goal
 
 pub returns-in_err-at-clause-refusal : goal.returns-in_err-at-clause-refusal
