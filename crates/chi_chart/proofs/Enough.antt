@@ -1,5 +1,5 @@
 -- From a run to the chart of its checks, and from what was read to the input's file.
-use Rattle.std.proofs.Common.{◌≡◌, ℕ, ◌+◌, false, List, [], ◌∷◌, Option, Some, None, Result, Ok, Err, IfOk, IfSome, length, map, sym, ap, subst, ◌∙◌, take}
+use Rattle.std.proofs.Common.{◌≡◌, ℕ, ◌+◌, false, List, Option, Some, None, Result, Ok, Err, IfOk, IfSome, length, map, sym, ap, subst, ◌∙◌, take}
 use Rattle.std.proofs.lemmas.List.{length-map}
 use Rattle.chi_flit.specs.declared.refusal.NoMemory.{NoMemory}
 use Rattle.chi_script.specs.declared.faults.Fault.{Fault}

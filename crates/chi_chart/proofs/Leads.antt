@@ -5,15 +5,16 @@ use Rattle.chi_node.specs.Words.{TableId, PortView}
 use Rattle.chi_script.specs.Checks.{CheckLine}
 use Rattle.chi_node.specs.System.{SystemState, opening_system}
 use Rattle.chi_replay.specs.Checks.{commands_in}
+use Rattle.chi_replay.specs.Replies.{reply_text}
 use Rattle.chi_replay.specs.Session.{machine_of, ports_of}
-use Rattle.chi_replay.specs.Texts.{MayAnswer, Ending, opening_ports}
+use Rattle.chi_replay.specs.Texts.{MayAnswer, Ending, ending_text, opening_ports}
 use Rattle.chi_replay.specs.Turns.{TurnAnswer, Machine, machine_at_start, turn}
 use Rattle.chi_replay.proofs.Openings.{opening_machine, opening_views}
 use Rattle.chi_replay.proofs.Playing.{made_plays}
 use Rattle.chi_chart.specs.declared.rows.RowPlace.{RowPlace}
 use Rattle.chi_chart.specs.Headings.{headings_in, lines_behind}
 use Rattle.chi_chart.specs.Played.{DrawnChart, IsPlayed, IsRows, IsDrawnRun}
-use Rattle.chi_chart.specs.Rows.{ChartRow, below_row, bottom_of, first_place, is_in_part, next_place, row_of, rows_of, shown_rows}
+use Rattle.chi_chart.specs.Rows.{ChartRow, below_row, bottom_of, first_place, is_in_part, next_place, rows_of, shown_rows}
 use Rattle.chi_chart.specs.Steps.{ChartStep, line_of_command, steps_of}
 
 abbrev pub LeadsOn : DrawnChart → List ChartRow → RowPlace → List (List ℕ) → Machine → List PortView → List CheckLine → Type 0
@@ -39,13 +40,13 @@ leads_further : (d : DrawnChart) (rows rows' : List ChartRow) (at at' : RowPlace
     → LeadsOn d rows' at' left' (machine_of new) (ports_of new) rest
 leads_further d rows rows' at at' left left' old new check rest row leads played are goes passed = λ later allowed.
     let mine = played.answers in
-    let said = played.said in
+    let reply = played.reply in
     let b = is_shown d at check in
-    let here_step : ChartStep = record { check = check; answer = said ++ (10 ∷ []); before = old.home; after = new.home } in
-    let whole = leads (mine ++ later) (mine, later, said, machine_of new, ports_of new, refl, played.plays, allowed) in
-    let made = made_plays (turn (machine_of old) check.command) (ports_of old) mine later said (machine_of new) (ports_of new) played.plays in
+    let here_step : ChartStep = record { check = check; reply = reply; answer = reply_text new.home reply ++ (10 ∷ []); before = old.home; after = new.home } in
+    let whole = leads (mine ++ later) (mine, later, reply, machine_of new, ports_of new, refl, played.plays, allowed) in
+    let made = made_plays (turn (machine_of old) check.command) (ports_of old) mine later reply (machine_of new) (ports_of new) played.plays in
     let steps : steps_of (machine_of old) (check ∷ rest) (mine ++ later) ≡ here_step ∷ steps_of (machine_of new) rest later =
-    ap (λ (x : Ending). record { check = check; answer = x.said ++ (10 ∷ []); before = old.home; after = x.state.home } ∷ steps_of x.state rest x.left) made in
+    ap (λ (x : Ending). record { check = check; reply = x.reply; answer = ending_text x ++ (10 ∷ []); before = old.home; after = x.state.home } ∷ steps_of x.state rest x.left) made in
     let here : rows_of d.part at left (steps_of (machine_of old) (check ∷ rest) (mine ++ later)) ≡ shown_rows b row ++ rows_of d.part (next_place b at row) (lines_behind left) (steps_of (machine_of new) rest later) =
     ap (rows_of d.part at left) steps ∙ ap (λ (r : ChartRow). shown_rows b r ++ rows_of d.part (next_place b at r) (lines_behind left) (steps_of (machine_of new) rest later)) (sym played.is) in
     let next : shown_rows b row ++ rows_of d.part (next_place b at row) (lines_behind left) (steps_of (machine_of new) rest later) ≡ shown_rows b row ++ rows_of d.part at' left' (steps_of (machine_of new) rest later) =

@@ -1,5 +1,5 @@
 -- What a step changes at its line (docs/FORMATS.md, "Charts").
-use Rattle.std.specs.Prelude.{ℕ, ◌==◌, ◌&&◌, not, List, [], ◌∷◌, ◌++◌, Bool, true, false, Option, Some, None, if◌then◌else◌}
+use Rattle.std.specs.Prelude.{ℕ, ◌==◌, ◌&&◌, List, [], ◌∷◌, ◌++◌, Bool, Option, Some, None, if◌then◌else◌}
 use Rattle.std.specs.List.{flat_map, slice_index_or, range_with_len}
 use Rattle.chi_flit.specs.declared.numbers.Agent.{Agent}
 use Rattle.chi_flit.specs.declared.numbers.Line.{Line}
@@ -8,7 +8,7 @@ use Rattle.chi_flit.specs.declared.message.Channel.TheVariants as channels
 use Rattle.chi_flit.specs.declared.message.Msg.{Msg}
 use Rattle.chi_flit.specs.declared.state.State.{State}
 use Rattle.chi_flit.specs.State.{state_number}
-use Rattle.chi_slice.specs.Words.{cell_of, no_flits, Cells, CopyView, LineView, Serving}
+use Rattle.chi_slice.specs.Words.{cell_of, no_flits, Cells, LineView, Serving}
 use Rattle.chi_slice.specs.Servings as servings
 use Rattle.chi_chart.specs.declared.marks.ChannelCell.{ChannelCell}
 use Rattle.chi_chart.specs.declared.marks.Mark.{Mark}

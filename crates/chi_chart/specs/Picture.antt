@@ -131,7 +131,7 @@ row_head layout row =
 -- below it what is told of the answer, its marks, and the answer that was wanted
 unfoldable pub row_told : Layout → ℕ → ChartRow → List ChartRow → List ℕ
 row_told layout bottom row later =
-    note_text layout (row.y + 14) row.command row.answer
+    note_text layout (row.y + 14) row.command row.reply row.answer
     ++ (marks_text layout bottom row.y later row.y row.marks
     ++ difference_text layout row.y (below_marks row.y row.marks + 20) row.wanted row.answer)
 

@@ -4,6 +4,8 @@ use Rattle.std.specs.Prelude.{◌≡◌, ℕ, List, [], ◌∷◌, ◌++◌, map
 use Rattle.std.specs.Option.{option_map}
 use Rattle.chi_script.specs.Checks.{CheckLine}
 use Rattle.chi_node.specs.System.{SystemState}
+use Rattle.chi_replay.specs.declared.replies.Reply.{Reply}
+use Rattle.chi_replay.specs.Replies.{reply_text}
 use Rattle.chi_replay.specs.Session.{machine_of, ports_of}
 use Rattle.chi_replay.specs.Texts.{MayAnswer, Plays, opening_ports}
 use Rattle.chi_replay.specs.Turns.{TurnAnswer, machine_at_start, turn}
@@ -12,9 +14,8 @@ use Rattle.chi_chart.specs.declared.rows.ChartPart.{ChartPart}
 use Rattle.chi_chart.specs.declared.rows.CommandRow as code
 use Rattle.chi_chart.specs.declared.rows.RowPlace.{RowPlace}
 use Rattle.chi_replay.specs.Checks.{commands_in}
-use Rattle.chi_chart.specs.Headings.{headings_in}
 use Rattle.chi_chart.specs.Rows.{ChartRow, bottom_of, first_place, row_of, rows_of}
-use Rattle.chi_chart.specs.Steps.{ChartStep, steps_of}
+use Rattle.chi_chart.specs.Steps.{steps_of}
 
 -- a row as its parts are read
 abbrev pub row_seen : {A : Type 0} → code.CommandRow A → ChartRow
@@ -25,6 +26,7 @@ row_seen row = record {
   headings = map (λ heading. heading.items) row.headings.items;
   y = row.y;
   command = row.command;
+  reply = row.reply;
   answer = string_bytes row.answer;
   wanted = option_map (λ wanted. wanted.items) row.wanted;
   marks = row.marks.items;
@@ -33,9 +35,9 @@ row_seen row = record {
 -- a command was played on a node, which went on so, and the row is that of the step
 pub record IsPlayed (old new : SystemState) (check : CheckLine) (at : RowPlace) (headings : List (List ℕ)) (row : ChartRow) : Type 0 where
   pub answers : List TurnAnswer
-  pub said : List ℕ
-  pub plays : Plays (turn (machine_of old) check.command) (ports_of old) answers said (machine_of new) (ports_of new)
-  pub is : row ≡ row_of at headings (record { check = check; answer = said ++ (10 ∷ []); before = old.home; after = new.home })
+  pub reply : Reply
+  pub plays : Plays (turn (machine_of old) check.command) (ports_of old) answers reply (machine_of new) (ports_of new)
+  pub is : row ≡ row_of at headings (record { check = check; reply = reply; answer = reply_text new.home reply ++ (10 ∷ []); before = old.home; after = new.home })
 
 -- what is drawn: the commands of a node of that size, the part of them that is shown, the lines of the file that they
 -- are found in, and where the first row begins

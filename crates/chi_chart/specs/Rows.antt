@@ -4,6 +4,7 @@ use Rattle.chi_flit.specs.declared.numbers.Line.{Line}
 use Rattle.chi_script.specs.declared.commands.Command.{Command}
 use Rattle.chi_chart.specs.declared.marks.Mark.{Mark}
 use Rattle.chi_chart.specs.declared.marks.Mark.TheVariants.{Turned, Taken, Sent, Serves}
+use Rattle.chi_replay.specs.declared.replies.Reply.{Reply}
 use Rattle.chi_replay.specs.Reports.{differs_from}
 use Rattle.chi_chart.specs.declared.rows.ChartPart.{ChartPart}
 use Rattle.chi_chart.specs.declared.rows.RowPlace.{RowPlace}
@@ -11,7 +12,7 @@ use Rattle.chi_chart.specs.Headings.{headings_in, lines_behind}
 use Rattle.chi_chart.specs.Marks.{marks_between}
 use Rattle.chi_chart.specs.Steps.{ChartStep, line_of_command, seen_line}
 
--- a command by its number, its answer, the wanted one where that is another, and what it changed; it begins below so many
+-- a command by its number, its reply and its answer, the wanted one where that is another, and what it changed; it begins below so many
 -- pixels, with the names where they are repeated and its headings, and its command below them
 pub record ChartRow : Type 0 where
   pub number : ℕ
@@ -20,6 +21,7 @@ pub record ChartRow : Type 0 where
   pub headings : List (List ℕ)
   pub y : ℕ
   pub command : Command
+  pub reply : Reply
   pub answer : List ℕ
   pub wanted : Option (List ℕ)
   pub marks : List Mark
@@ -79,6 +81,7 @@ row_of at headings step = record {
   headings = headings;
   y = below_headings at.y (is_repeated at.drawn) (length headings);
   command = step.check.command;
+  reply = step.reply;
   answer = step.answer;
   wanted = other_wanted step.check.wanted step.answer;
   marks = marks_between (line_of_command step.check.command) (seen_line step.before (line_of_command step.check.command)) (seen_line step.after (line_of_command step.check.command));

@@ -1,6 +1,6 @@
 -- The steps of a run: what each command says, and what the node is before and after it (docs/FORMATS.md,
 -- "Charts").
-use Rattle.std.specs.Prelude.{◌≡◌, ℕ, List, [], ◌∷◌, ◌++◌, Option, Some, None}
+use Rattle.std.specs.Prelude.{ℕ, List, [], ◌∷◌, ◌++◌, Option, Some, None}
 use Rattle.chi_flit.specs.declared.numbers.Line.{Line}
 use Rattle.chi_flit.specs.declared.refusal.Refusal.{Refusal}
 use Rattle.chi_slice.specs.Words.{line_view, LineView}
@@ -8,13 +8,15 @@ use Rattle.chi_script.specs.declared.commands.Command.{Command}
 use Rattle.chi_script.specs.declared.commands.Command.TheVariants as commands
 use Rattle.chi_script.specs.Checks.{CheckLine}
 use Rattle.chi_node.specs.Home.{HomeState, node_last, node_line, node_view_refusal}
-use Rattle.chi_replay.specs.Texts.{ending}
+use Rattle.chi_replay.specs.declared.replies.Reply.{Reply}
+use Rattle.chi_replay.specs.Texts.{ending, ending_text}
 use Rattle.chi_replay.specs.Turns.{TurnAnswer, Machine, turn}
 
--- a command with the answer that is wanted of it, the line that a replay prints for it, with its end, and the home
--- before and after
+-- a command with the answer that is wanted of it, its reply, the line that a replay prints for it, with its end, and the
+-- home before and after
 pub record ChartStep : Type 0 where
   pub check : CheckLine
+  pub reply : Reply
   pub answer : List ℕ
   pub before : HomeState
   pub after : HomeState
@@ -25,7 +27,8 @@ steps_of m [] answers = []
 steps_of m (check ∷ rest) answers =
     record {
       check = check;
-      answer = (ending (turn m check.command) answers).said ++ (10 ∷ []);
+      reply = (ending (turn m check.command) answers).reply;
+      answer = ending_text (ending (turn m check.command) answers) ++ (10 ∷ []);
       before = m.home;
       after = (ending (turn m check.command) answers).state.home;
     }

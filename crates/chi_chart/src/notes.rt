@@ -1,13 +1,13 @@
 //! What is written of a command's answer.
 
 ghost use Rattle.std.specs.Prelude.{◌≡◌, ◌++◌, OnOk, Some, codes, string_bytes};
-ghost use Rattle.std.specs.Option.{option_map};
-ghost use Rattle.chi_chart.specs.Notes.{agent_of_command, behind, beside, answer_words_if, done_x, front_text, note_text, ok_words, refused_x, step_front, step_ok, step_x, words_tag, words_text};
+ghost use Rattle.chi_chart.specs.Notes.{agent_of_command, asker_x, beside, done_x, front_text, note_text, note_x, ok_words, step_front, store_x, words_in, words_tag, words_text};
 
 use crate::drawn::add_escaped;
 use crate::frame::Layout;
 use crate::layout::words_x;
 use chi_flit::{Agent, NoMemory, Step};
+use chi_replay::Reply;
 use chi_script::Command;
 use std::alloc::Allocator;
 use std::fmt;
@@ -47,36 +47,24 @@ impl fmt::Display for StepFront {
     }
 }
 
-/// The words of a step's answer that aren't written.
-fn step_ok(step: Step) -> &'static [u8]
-    ensures { result.now ≡ step_ok step }
+/// The words of an answer that aren't written.
+fn ok_words(reply: &Reply) -> &'static [u8]
+    ensures { result.now ≡ ok_words reply.now }
 {
-    match step {
-        Step::Load(_) => b"ok value ",
-        Step::Store(..) => b"ok",
+    match reply {
+        Reply::Done => b"ok",
+        Reply::Value(_) => b"ok value ",
+        Reply::Refused(_) => b"",
         _ => b"ok ",
     }
 }
 
-/// The same of a command's answer.
-fn ok_words(command: Command) -> &'static [u8]
-    ensures { result.now ≡ ok_words command }
+/// The words of an answer that are written.
+fn words_in<'a>(reply: &Reply, answer: &'a [u8]) -> &'a [u8]
+    ensures { result.now ≡ words_in reply.now answer.now }
 {
-    match command {
-        Command::Act(action) => step_ok(action.action().step),
-        _ => b"ok ",
-    }
-}
-
-/// What stands behind the front of an answer, where it has that.
-fn behind<'a>(front: &[u8], answer: &'a [u8]) -> Option<&'a [u8]>
-    ensures { option_map (λ words. words.now) result ≡ behind front.now answer.now }
-{
-    if answer.starts_with(front) {
-        Some(&answer[front.len()..])
-    } else {
-        None
-    }
+    let front = ok_words(reply).len().min(answer.len());
+    &answer[front..]
 }
 
 /// The agent whose command it is.
@@ -108,37 +96,45 @@ fn beside(layout: &Layout, agent: Option<Agent>) -> u64
     }
 }
 
-/// Where a refusal is told: at the agent that is refused, where it has a lifeline.
-fn refused_x(layout: &Layout, command: Command) -> u64
-    ensures { result ≡ refused_x layout.now command }
+/// Beside the agent whose command it is, where it has a lifeline.
+fn asker_x(layout: &Layout, command: Command) -> u64
+    ensures { result ≡ asker_x layout.now command }
 {
     beside(layout, agent_of(command))
 }
 
-/// Where an action's answer is told, if it is.
-fn step_x(layout: &Layout, agent: Agent, step: Step) -> Option<u64>
-    ensures { result ≡ step_x layout.now agent step }
+/// Where it is told that a step is done, if it is.
+fn store_x(agent: Agent, step: Step) -> Option<u64>
+    ensures { result ≡ store_x agent step }
 {
     match step {
-        Step::Load(_) | Step::Store(..) => Some(words_x(agent)),
-        Step::Start | Step::RecvAck | Step::RecvWrData => Some(layout.home_words_x()),
+        Step::Store(..) => Some(words_x(agent)),
         _ => None,
     }
 }
 
-/// Where an answer is told that is no refusal, if it is.
-fn done_x(layout: &Layout, command: Command) -> Option<u64>
-    ensures { result ≡ done_x layout.now command }
+/// Where it is told that a command is done, if it is.
+fn done_x(command: Command) -> Option<u64>
+    ensures { result ≡ done_x command }
 {
     match command {
-        Command::Totals | Command::Show { .. } | Command::Flits { .. } => None,
-        Command::Audit | Command::Arrive { .. } | Command::GiveBack { .. } | Command::Tend { .. } =>
-            Some(layout.home_words_x()),
-        Command::See { agent } => Some(words_x(agent)),
         Command::Act(action) => {
             let action = action.action();
-            step_x(layout, action.agent, action.step)
+            store_x(action.agent, action.step)
         }
+        _ => None,
+    }
+}
+
+/// Where a reply is told, if it is.
+fn note_x(layout: &Layout, command: Command, reply: &Reply) -> Option<u64>
+    ensures { result ≡ note_x layout.now command reply.now }
+{
+    match reply {
+        Reply::Done => done_x(command),
+        Reply::Totals(_) | Reply::Line(_) | Reply::Flits(..) => None,
+        Reply::Value(_) | Reply::Credits(_) | Reply::Refused(_) => Some(asker_x(layout, command)),
+        _ => Some(layout.home_words_x()),
     }
 }
 
@@ -184,18 +180,16 @@ pub(crate) fn add_note<A: Allocator>(
     layout: &Layout,
     y: u64,
     command: &Command,
+    reply: &Reply,
     answer: &[u8],
 ) -> Result<(), NoMemory>
-    ensures { OnOk result
-        (text.new.items ≡ text.old.items ++ note_text layout.now y command.now answer.now) }
+    ensures { OnOk result (text.new.items
+        ≡ text.old.items ++ note_text layout.now y command.now reply.now answer.now) }
 {
-    if answer.starts_with(b"refused") {
-        let x = refused_x(layout, *command);
-        return add_words(text, "refused", x, y, &Front(Command::Totals), answer);
-    }
-    let words = behind(ok_words(*command), answer);
-    match (done_x(layout, *command), words) {
-        (Some(x), Some(words)) => add_words(text, "answer", x, y, &Front(*command), words),
-        _ => Ok(()),
+    let words = words_in(reply, answer);
+    match (note_x(layout, *command, reply), reply.refusal()) {
+        (None, _) => Ok(()),
+        (Some(x), None) => add_words(text, "answer", x, y, &Front(*command), words),
+        (Some(x), Some(_)) => add_words(text, "refused", x, y, &Front(Command::Totals), words),
     }
 }

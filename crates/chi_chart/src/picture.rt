@@ -363,6 +363,7 @@ impl<A: Allocator> Picture<A> {
             &self.layout,
             words_y,
             &row.command,
+            &row.reply,
             row.answer.as_bytes(),
         )?;
         self.add_marks(row.y, later, &row.marks)?;

@@ -13,7 +13,7 @@ use crate::headings::LeftLines;
 use crate::marks::{Mark, marks_between};
 use chi_flit::{Line, NoMemory};
 use chi_node::System;
-use chi_replay::answer;
+use chi_replay::{Reply, answer};
 use chi_script::{Check, Command};
 use chi_slice::{Config, LineView};
 use std::alloc::Allocator;
@@ -45,6 +45,8 @@ pub(crate) struct CommandRow<A: Allocator> {
     /// Where its command begins.
     pub(crate) y: u32,
     pub(crate) command: Command,
+    pub(crate) reply: Reply,
+    /// The line of the reply, with its end.
     pub(crate) answer: String<A>,
     /// The wanted answer, where it is another.
     pub(crate) wanted: Option<Vec<u8, A>>,
@@ -212,8 +214,9 @@ fn play<A: Allocator, B: Allocator + Copy>(
 {
     let line = line_of(check.command);
     let before = seen_line(system, line);
+    let reply = answer(system, check.command);
     let mut text = String::new(alloc);
-    answer(system, check.command, &mut text)?;
+    reply.print(system, &mut text)?;
     let after = seen_line(system, line);
     let marks = marks_between(alloc, line, &before, &after)?;
     let wanted = other_wanted(alloc, check.wanted, text.as_bytes())?;
@@ -226,6 +229,7 @@ fn play<A: Allocator, B: Allocator + Copy>(
         headings,
         y,
         command: check.command,
+        reply,
         answer: text,
         wanted,
         marks,

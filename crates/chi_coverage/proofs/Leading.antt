@@ -8,7 +8,8 @@ use Rattle.chi_coverage.specs.Fillers.{is_filler}
 use Rattle.chi_replay.specs.Checks.{commands_in}
 use Rattle.chi_slice.specs.Words.{LineView, Sizes}
 use Rattle.chi_node.specs.System.{SystemState, opening_system}
-use Rattle.chi_replay.specs.Session.{SaysTurn, machine_of, ports_of}
+use Rattle.chi_replay.specs.declared.replies.Reply.{Reply}
+use Rattle.chi_replay.specs.Session.{PlaysTurn, machine_of, ports_of}
 use Rattle.chi_replay.specs.Texts.{MayAnswer, Ending, opening_ports}
 use Rattle.chi_replay.specs.Turns.{TurnAnswer, Machine, machine_at_start, turn}
 use Rattle.chi_replay.proofs.Openings.{opening_machine, opening_views}
@@ -45,12 +46,12 @@ pub leads_further : (config : Sizes) (fillers : List Bool) (all : List CheckLine
     → LeadsOn config fillers all start now' past' (machine_of new) (ports_of new) rest
 leads_further config fillers all start now now' past past' old new check rest leads played = λ later allowed.
     let mine = played.answers in
-    let said = played.said in
-    let whole = leads (mine ++ later) (mine, later, said, machine_of new, ports_of new, refl, played.plays, allowed) in
-    let made = made_plays (turn (machine_of old) check.command) (ports_of old) mine later said (machine_of new) (ports_of new) played.plays in
-    let first : PlayedStep = record { command = check.command; filler = is_filler fillers check.line; answer = said ++ (10 ∷ []); before = old.home; after = new.home } in
+    let reply = played.reply in
+    let whole = leads (mine ++ later) (mine, later, reply, machine_of new, ports_of new, refl, played.plays, allowed) in
+    let made = made_plays (turn (machine_of old) check.command) (ports_of old) mine later reply (machine_of new) (ports_of new) played.plays in
+    let first : PlayedStep = record { command = check.command; filler = is_filler fillers check.line; reply = reply; before = old.home; after = new.home } in
     let steps : played_steps fillers (machine_of old) (check ∷ rest) (mine ++ later) ≡ first ∷ played_steps fillers (machine_of new) rest later =
-    ap (λ (x : Ending). record { command = check.command; filler = is_filler fillers check.line; answer = x.said ++ (10 ∷ []); before = old.home; after = x.state.home } ∷ played_steps fillers x.state rest x.left) made in
+    ap (λ (x : Ending). record { command = check.command; filler = is_filler fillers check.line; reply = x.reply; before = old.home; after = x.state.home } ∷ played_steps fillers x.state rest x.left) made in
     let cells : run_cells config fillers past (machine_of old) (check ∷ rest) (mine ++ later)
     ≡ cells_of_step config past first ++ run_cells config fillers (past_of_step config past first) (machine_of new) rest later =
     ap (cells_of_steps config past) steps in
@@ -70,24 +71,20 @@ leads_to config fillers all start now past m ports leads = leads [] refl
 pub record Led (config : Sizes) (fillers : List Bool) (all : List CheckLine) (start now : List ℕ) (past : Past) (system : SystemState) (rest : List CheckLine) : Type 0 where
   pub leads : LeadsOn config fillers all start now past (machine_of system) (ports_of system) rest
 
--- a command was played, and what it said and what stood at its line was counted, where it is no filler
-pub counted_step : {T E : Type 0} (result : Result T E) (config : Sizes) (past past' : Past) (old new : SystemState) (command : Command) (filler : Bool) (counts counts' start text line : List ℕ) (before after : Option LineView)
-    → start ≡ [] → SaysTurn command old new start text → line ≡ text → before ≡ view_in old.home (named_of command).line → after ≡ view_in new.home (named_of command).line
-    → counts' ≡ cells_counted counts (cells_unless filler (cells_shown config past command before line after)) → OnOk result (past' ≡ past_shown config past command before line)
+-- a command was played, and what it replied and what stood at its line was counted, where it is no filler
+pub counted_step : {T E : Type 0} (result : Result T E) (config : Sizes) (past past' : Past) (old new : SystemState) (command : Command) (filler : Bool) (counts counts' : List ℕ) (reply : Reply) (before after : Option LineView)
+    → PlaysTurn command old new reply → before ≡ view_in old.home (named_of command).line → after ≡ view_in new.home (named_of command).line
+    → counts' ≡ cells_counted counts (cells_unless filler (cells_shown config past command before reply after)) → OnOk result (past' ≡ past_shown config past command before reply)
     → OnOk result (IsCountedStep config past past' old new command filler counts counts')
-counted_step (Err lack) config past past' old new command filler counts counts' start text line before after none says same seen left made follows = follows
-counted_step (Ok done) config past past' old new command filler counts counts' start text line before after none says same seen left made follows =
-    let said : line ≡ says.1 ++ (10 ∷ []) = same ∙ (says.3 ∙ ap (λ (l : List ℕ). l ++ (says.1 ++ (10 ∷ []))) none) in
-    record {
-      answers = says.0;
-      said = says.1;
-      plays = says.2;
-      is = made ∙ (ap (λ (v : Option LineView). cells_counted counts (cells_unless filler (cells_shown config past command v line after))) seen
-          ∙ (ap (λ (v : Option LineView). cells_counted counts (cells_unless filler (cells_shown config past command (view_in old.home (named_of command).line) line v))) left
-          ∙ ap (λ (l : List ℕ). cells_counted counts (cells_unless filler (cells_shown config past command (view_in old.home (named_of command).line) l (view_in new.home (named_of command).line)))) said));
-      leaves = follows ∙ (ap (λ (v : Option LineView). past_shown config past command v line) seen
-          ∙ ap (λ (l : List ℕ). past_shown config past command (view_in old.home (named_of command).line) l) said);
-    }
+counted_step (Err lack) config past past' old new command filler counts counts' reply before after plays seen left made follows = follows
+counted_step (Ok done) config past past' old new command filler counts counts' reply before after plays seen left made follows = record {
+  answers = plays.0;
+  reply = reply;
+  plays = plays.1;
+  is = made ∙ (ap (λ (v : Option LineView). cells_counted counts (cells_unless filler (cells_shown config past command v reply after))) seen
+      ∙ ap (λ (v : Option LineView). cells_counted counts (cells_unless filler (cells_shown config past command (view_in old.home (named_of command).line) reply v))) left);
+  leaves = follows ∙ ap (λ (v : Option LineView). past_shown config past command v reply) seen;
+}
 
 -- of a filler nothing is counted; of another command each cell is
 pub fills : (filler : Bool) (counts : List ℕ) (cells : List Cell) → filler ≡ true → counts ≡ cells_counted counts (cells_unless filler cells)

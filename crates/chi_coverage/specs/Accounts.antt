@@ -1,7 +1,7 @@
 -- What the answers so far show of an agent's account, by credit type: its seen credits, which are those that its latest `see`
 -- showed, less one for each spent or given back; and its Riding and its Cancelled slots (docs/FORMATS.md, "The text of a
 -- replay"; docs/PROTOCOL.md, "Slots and accounts"). And the cells that it shows ("A requester and its calls").
-use Rattle.std.specs.Prelude.{ℕ, ◌+◌, ◌-◌, ◌==◌, nat_lt, List, [], ◌∷◌, Bool, true, false, ◌||◌, Option, Some, None, length, replicate, slice_index, slice_set, if◌then◌else◌}
+use Rattle.std.specs.Prelude.{ℕ, ◌+◌, ◌-◌, ◌==◌, nat_lt, List, Bool, true, false, ◌||◌, Option, Some, None, replicate, slice_index, slice_set, if◌then◌else◌}
 use Rattle.chi_flit.specs.declared.credit.CreditType.{CreditType}
 use Rattle.chi_flit.specs.declared.credit.Profile.{Profile}
 use Rattle.chi_flit.specs.declared.message.Request.{Request}
@@ -9,6 +9,8 @@ use Rattle.chi_flit.specs.declared.refusal.Refusal.{Refusal}
 use Rattle.chi_flit.specs.declared.refusal.Refusal.TheVariants as refusals
 use Rattle.chi_flit.specs.Credit.{credit_type_of}
 use Rattle.chi_slice.specs.Words.{Pending}
+use Rattle.chi_replay.specs.declared.replies.Reply.{Reply}
+use Rattle.chi_replay.specs.declared.replies.Reply.TheVariants as replies
 use Rattle.chi_coverage.specs.declared.accounts.AccountView.{AccountView}
 use Rattle.chi_coverage.specs.declared.cells.Cell.{Cell}
 use Rattle.chi_coverage.specs.declared.cells.Cell.TheVariants as cells
@@ -33,12 +35,10 @@ one_credit_more numbers ty = slice_set numbers (credit_place ty) (count_at_type 
 abbrev pub one_less : List ℕ → CreditType → List ℕ
 one_less numbers ty = slice_set numbers (credit_place ty) (count_at_type numbers ty - 1)
 
--- the numbers of `ok credits C0 C1` or `ok credits C0 C1 C2 C3`: a digit each, since no more than eight are due
-abbrev pub digit_at : List ℕ → ℕ → ℕ
-digit_at line place = if nat_lt place (length line) then slice_index line place - 48 else 0
-
-abbrev pub credits_said : List ℕ → List ℕ
-credits_said line = digit_at line 11 ∷ digit_at line 13 ∷ digit_at line 15 ∷ digit_at line 17 ∷ []
+-- the numbers of a `see`
+abbrev pub credits_in : Reply → List ℕ
+credits_in (replies.Credits credits) = credits.counts
+credits_in other = replicate 4 0
 
 -- a seen credit is beyond those for Riding slots; and a slot is Cancelled
 abbrev pub has_unused_credit : AccountView → CreditType → Bool
@@ -48,8 +48,8 @@ abbrev pub has_cancelled : AccountView → CreditType → Bool
 has_cancelled account ty = nat_lt 0 (count_at_type account.cancelled ty)
 
 -- what a call leaves that is done, a row each: see, resend, cancel, arrive of a resent request, give back
-abbrev pub after_see : List ℕ → AccountView → AccountView
-after_see line account = record { seen = credits_said line; riding = account.riding; cancelled = account.cancelled }
+abbrev pub after_see : Reply → AccountView → AccountView
+after_see reply account = record { seen = credits_in reply; riding = account.riding; cancelled = account.cancelled }
 
 abbrev pub after_resend : Profile → Option Pending → AccountView → AccountView
 after_resend profile None account = account
@@ -72,13 +72,13 @@ abbrev pub after_return : Option CreditType → AccountView → AccountView
 after_return None account = account
 after_return (Some ty) account = record { seen = one_less account.seen ty; riding = account.riding; cancelled = one_less account.cancelled ty }
 
-abbrev pub told_account_after : Verb → Profile → Option CreditType → Option Scene → List ℕ → AccountView → AccountView
-told_account_after verbs.See profile ty before line account = after_see line account
-told_account_after verbs.GiveBack profile ty before line account = after_return ty account
-told_account_after verbs.Resend profile ty (Some scene) line account = after_resend profile scene.pending account
-told_account_after verbs.Cancel profile ty (Some scene) line account = after_cancel profile scene.pending account
-told_account_after verbs.Arrive profile ty (Some scene) line account = after_arrival profile scene.flits.req account
-told_account_after verb profile ty before line account = account
+abbrev pub told_account_after : Verb → Profile → Option CreditType → Option Scene → Reply → AccountView → AccountView
+told_account_after verbs.See profile ty before reply account = after_see reply account
+told_account_after verbs.GiveBack profile ty before reply account = after_return ty account
+told_account_after verbs.Resend profile ty (Some scene) reply account = after_resend profile scene.pending account
+told_account_after verbs.Cancel profile ty (Some scene) reply account = after_cancel profile scene.pending account
+told_account_after verbs.Arrive profile ty (Some scene) reply account = after_arrival profile scene.flits.req account
+told_account_after verb profile ty before reply account = account
 
 -- what a `see` finds: nothing, one credit, two of a type, or one each of several types
 abbrev pub some_place : List ℕ → ℕ → ℕ
@@ -117,9 +117,9 @@ abbrev pub return_cell : Option CreditType → AccountView → Option Cell
 return_cell None account = None
 return_cell (Some ty) account = Some (cells.Requester (requester_cells.NotReturned (has_cancelled account ty) (has_unused_credit account ty)))
 
-abbrev pub account_cell : Option Refusal → Verb → Option Scene → Profile → Option CreditType → List ℕ → AccountView → Option Cell
-account_cell None verbs.See before profile ty line account = Some (cells.Requester (requester_cells.Seen (found_in (credits_said line))))
-account_cell None verbs.RetryAck (Some scene) profile ty line account = retry_cell profile scene.pending account
-account_cell (Some refusals.WrongState) verbs.Resend (Some scene) profile ty line account = resend_cell profile scene.pending account
-account_cell (Some refusals.NoCredit) verbs.GiveBack before profile ty line account = return_cell ty account
-account_cell refusal verb before profile ty line account = None
+abbrev pub account_cell : Option Refusal → Verb → Option Scene → Profile → Option CreditType → Reply → AccountView → Option Cell
+account_cell None verbs.See before profile ty reply account = Some (cells.Requester (requester_cells.Seen (found_in (credits_in reply))))
+account_cell None verbs.RetryAck (Some scene) profile ty reply account = retry_cell profile scene.pending account
+account_cell (Some refusals.WrongState) verbs.Resend (Some scene) profile ty reply account = resend_cell profile scene.pending account
+account_cell (Some refusals.NoCredit) verbs.GiveBack before profile ty reply account = return_cell ty account
+account_cell refusal verb before profile ty reply account = None

@@ -9,6 +9,7 @@ use Rattle.chi_coverage.specs.Fillers.{fillers_of}
 use Rattle.chi_script.specs.Headers.{node_sizes}
 use Rattle.chi_replay.specs.Checks.{commands_in}
 use Rattle.chi_node.specs.System.{SystemState}
+use Rattle.chi_replay.specs.declared.replies.Reply.{Reply}
 use Rattle.chi_replay.specs.Session.{machine_of, ports_of}
 use Rattle.chi_replay.specs.Suites.{GivenFile, first_of}
 use Rattle.chi_replay.specs.Texts.{MayAnswer, Plays, opening_ports}
@@ -32,10 +33,10 @@ count_at counts cell = slice_index counts (cell_place cell)
 -- it is no filler
 pub record IsCountedStep (config : Sizes) (past later : Past) (old new : SystemState) (command : Command) (filler : Bool) (before after : List ℕ) : Type 0 where
   pub answers : List TurnAnswer
-  pub said : List ℕ
-  pub plays : Plays (turn (machine_of old) command) (ports_of old) answers said (machine_of new) (ports_of new)
-  pub is : after ≡ cells_counted before (cells_of_step config past (record { command = command; filler = filler; answer = said ++ (10 ∷ []); before = old.home; after = new.home }))
-  pub leaves : later ≡ past_of_step config past (record { command = command; filler = filler; answer = said ++ (10 ∷ []); before = old.home; after = new.home })
+  pub reply : Reply
+  pub plays : Plays (turn (machine_of old) command) (ports_of old) answers reply (machine_of new) (ports_of new)
+  pub is : after ≡ cells_counted before (cells_of_step config past (record { command = command; filler = filler; reply = reply; before = old.home; after = new.home }))
+  pub leaves : later ≡ past_of_step config past (record { command = command; filler = filler; reply = reply; before = old.home; after = new.home })
 
 -- all commands were played on a new node, and the cells of the run were counted, but of the filler
 pub record IsCountedRun (config : Sizes) (fillers : List Bool) (all : List CheckLine) (before after : List ℕ) : Type 0 where

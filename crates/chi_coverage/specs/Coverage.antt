@@ -16,6 +16,7 @@ use Rattle.chi_script.specs.Headers.{node_sizes}
 use Rattle.chi_slice.specs.Words.{line_view, LineView, Sizes}
 use Rattle.chi_node.specs.Home.{HomeState, node_last, node_line, node_view_refusal}
 use Rattle.chi_replay.specs.Checks.{commands_in}
+use Rattle.chi_replay.specs.declared.replies.Reply.{Reply}
 use Rattle.chi_replay.specs.Suites.{GivenFile, faulty_line, first_of}
 use Rattle.chi_replay.specs.Texts.{MayAnswer, ending, opening_ports}
 use Rattle.chi_replay.specs.Turns.{TurnAnswer, Machine, machine_at_start, turn}
@@ -32,12 +33,11 @@ use Rattle.chi_coverage.specs.Places.{is_cell}
 use Rattle.chi_coverage.specs.Scenes.{scene_named}
 use Rattle.chi_coverage.specs.Steps.{cells_seen}
 
--- a step of a run: a command, whether it is filler, the line that answers it, with its end, and the home before and
--- after
+-- a step of a run: a command, whether it is filler, its reply, and the home before and after
 pub record PlayedStep : Type 0 where
   pub command : Command
   pub filler : Bool
-  pub answer : List ℕ
+  pub reply : Reply
   pub before : HomeState
   pub after : HomeState
 
@@ -48,7 +48,7 @@ played_steps fillers m (check ∷ rest) answers =
     record {
       command = check.command;
       filler = is_filler fillers check.line;
-      answer = (ending (turn m check.command) answers).said ++ (10 ∷ []);
+      reply = (ending (turn m check.command) answers).reply;
       before = m.home;
       after = (ending (turn m check.command) answers).state.home;
     }
@@ -67,9 +67,9 @@ view_in home (Some l) = view_unless (node_view_refusal home l.0) (line_view (nod
 abbrev pub listed : List (Option Cell) → List Cell
 listed cells = flat_map (λ cell. option_to_list cell) cells
 
-abbrev pub cells_shown : Sizes → Past → Command → Option LineView → List ℕ → Option LineView → List Cell
-cells_shown sizes past command before answer after =
-    listed (cells_seen sizes past (named_of command) (scene_named before (named_of command).agent) answer after)
+abbrev pub cells_shown : Sizes → Past → Command → Option LineView → Reply → Option LineView → List Cell
+cells_shown sizes past command before reply after =
+    listed (cells_seen sizes past (named_of command) (scene_named before (named_of command).agent) reply after)
 
 -- a filler is in none
 abbrev pub cells_unless : Bool → List Cell → List Cell
@@ -77,15 +77,15 @@ cells_unless filler cells = if filler then [] else cells
 
 abbrev pub cells_of_step : Sizes → Past → PlayedStep → List Cell
 cells_of_step sizes past step =
-    cells_unless step.filler (cells_shown sizes past step.command (view_in step.before (named_of step.command).line) step.answer (view_in step.after (named_of step.command).line))
+    cells_unless step.filler (cells_shown sizes past step.command (view_in step.before (named_of step.command).line) step.reply (view_in step.after (named_of step.command).line))
 
 -- what a step leaves to those behind it
-abbrev pub past_shown : Sizes → Past → Command → Option LineView → List ℕ → Past
-past_shown sizes past command before answer =
-    past_after sizes past (named_of command) (scene_named before (named_of command).agent) answer
+abbrev pub past_shown : Sizes → Past → Command → Option LineView → Reply → Past
+past_shown sizes past command before reply =
+    past_after sizes past (named_of command) (scene_named before (named_of command).agent) reply
 
 abbrev pub past_of_step : Sizes → Past → PlayedStep → Past
-past_of_step sizes past step = past_shown sizes past step.command (view_in step.before (named_of step.command).line) step.answer
+past_of_step sizes past step = past_shown sizes past step.command (view_in step.before (named_of step.command).line) step.reply
 
 -- the cells of steps, one after the other
 abbrev pub cells_of_steps : Sizes → Past → List PlayedStep → List Cell

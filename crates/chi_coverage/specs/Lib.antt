@@ -4,7 +4,6 @@ pub mod Cells
 pub mod Places
 pub mod Lists
 pub mod Scenes
-pub mod Said
 pub mod Named
 pub mod Refused
 pub mod Outcomes

@@ -1,5 +1,5 @@
 -- The cells of the messages that a `flits` shows (docs/PROTOCOL.md, "Messages").
-use Rattle.std.specs.Prelude.{ℕ, List, [], ◌∷◌, Bool, ◌&&◌, is_none, Option, Some, None}
+use Rattle.std.specs.Prelude.{List, [], ◌∷◌, Bool, ◌&&◌, is_none, Option, Some, None}
 use Rattle.chi_flit.specs.declared.message.Channel.{Channel}
 use Rattle.chi_flit.specs.declared.message.Channel.TheVariants as channels
 use Rattle.chi_flit.specs.declared.message.DatUp.TheVariants as dat_ups
@@ -18,7 +18,8 @@ use Rattle.chi_coverage.specs.declared.cells.Verb.TheVariants as verbs
 use Rattle.chi_coverage.specs.declared.scenes.Scene.{Scene}
 use Rattle.chi_coverage.specs.declared.named.Named.{Named}
 use Rattle.chi_coverage.specs.declared.situations.Situation.TheVariants as situations
-use Rattle.chi_coverage.specs.Said.{refusal_in}
+use Rattle.chi_replay.specs.declared.replies.Reply.{Reply}
+use Rattle.chi_replay.specs.Replies.{refusal_in}
 use Rattle.chi_coverage.specs.Cells.{cell_if}
 
 -- "Messages": the form of a message, and those that a `flits` shows
@@ -60,5 +61,5 @@ abbrev pub message_by : Option Refusal → Verb → Option Scene → List (Optio
 message_by None verbs.Flits (Some scene) = flight_cells scene.flits
 message_by refusal verb before = no_messages
 
-abbrev pub message_cells : Named → Option Scene → List ℕ → List (Option Cell)
-message_cells named before line = message_by (refusal_in line) named.verb before
+abbrev pub message_cells : Named → Option Scene → Reply → List (Option Cell)
+message_cells named before reply = message_by (refusal_in reply) named.verb before

@@ -6,6 +6,8 @@ use Rattle.chi_flit.specs.declared.numbers.Agent.{Agent}
 use Rattle.chi_flit.specs.declared.numbers.Line.{Line}
 use Rattle.chi_flit.specs.declared.refusal.Refusal.{Refusal}
 use Rattle.chi_slice.specs.Words.{LineView, Sizes}
+use Rattle.chi_replay.specs.declared.replies.Reply.{Reply}
+use Rattle.chi_replay.specs.Replies.{refusal_in}
 use Rattle.chi_coverage.specs.declared.accounts.AccountView.{AccountView}
 use Rattle.chi_coverage.specs.declared.cells.Cell.{Cell}
 use Rattle.chi_coverage.specs.declared.cells.Verb.{Verb}
@@ -16,7 +18,6 @@ use Rattle.chi_coverage.specs.declared.scenes.Scene.{Scene}
 use Rattle.chi_coverage.specs.declared.sharing.Sharing.{Sharing}
 use Rattle.chi_coverage.specs.Accounts.{told_account_after, account_cell, no_account}
 use Rattle.chi_coverage.specs.Journals.{is_journal_full, journal_after, journal_cell, no_journal}
-use Rattle.chi_coverage.specs.Said.{refusal_in}
 use Rattle.chi_coverage.specs.Sharing.{data_cell, no_sharing, passed_cell, sharing_after}
 
 abbrev pub no_past : Past
@@ -49,10 +50,10 @@ with_sharing past l line =
     if nat_lt l.0 64 then record { accounts = past.accounts; journals = past.journals; lines = slice_set past.lines l.0 line } else past
 
 -- after a step that is done, in each of the three
-abbrev pub with_agent_step : Profile → Named → Option Scene → List ℕ → Option Agent → Past → Past
-with_agent_step profile named before line None past = past
-with_agent_step profile named before line (Some agent) past =
-    with_told_account past agent (told_account_after named.verb profile named.credit before line (account_of past agent))
+abbrev pub with_agent_step : Profile → Named → Option Scene → Reply → Option Agent → Past → Past
+with_agent_step profile named before reply None past = past
+with_agent_step profile named before reply (Some agent) past =
+    with_told_account past agent (told_account_after named.verb profile named.credit before reply (account_of past agent))
 
 abbrev pub with_journal_step : Sizes → Verb → Option Line → Past → Past
 with_journal_step sizes verb None past = past
@@ -64,14 +65,14 @@ with_line_step verb before None past = past
 with_line_step verb before (Some l) past = with_sharing past l (sharing_after verb before (sharing_of past l))
 
 -- after a step; a refused one leaves all as it was
-abbrev pub past_by : Option Refusal → Sizes → Past → Named → Option Scene → List ℕ → Past
-past_by None sizes past named before line =
+abbrev pub past_by : Option Refusal → Sizes → Past → Named → Option Scene → Reply → Past
+past_by None sizes past named before reply =
     with_line_step named.verb before named.line (with_journal_step sizes named.verb named.line
-    (with_agent_step sizes.profile named before line named.agent past))
-past_by refusal sizes past named before line = past
+    (with_agent_step sizes.profile named before reply named.agent past))
+past_by refusal sizes past named before reply = past
 
-abbrev pub past_after : Sizes → Past → Named → Option Scene → List ℕ → Past
-past_after sizes past named before line = past_by (refusal_in line) sizes past named before line
+abbrev pub past_after : Sizes → Past → Named → Option Scene → Reply → Past
+past_after sizes past named before reply = past_by (refusal_in reply) sizes past named before reply
 
 -- a journal has room
 abbrev pub has_room : Sizes → Past → ℕ → Bool
@@ -95,14 +96,14 @@ abbrev pub passed_shown : Option Refusal → Named → Past → Option Agent →
 passed_shown None named past (Some agent) (Some l) after = passed_cell named.verb agent after (sharing_of past l)
 passed_shown refusal named past agent l after = None
 
-abbrev pub account_shown : Option Agent → Profile → Past → Named → Option Scene → List ℕ → Option Cell
-account_shown None profile past named before line = None
-account_shown (Some agent) profile past named before line =
-    account_cell (refusal_in line) named.verb before profile named.credit line (account_of past agent)
+abbrev pub account_shown : Option Agent → Profile → Past → Named → Option Scene → Reply → Option Cell
+account_shown None profile past named before reply = None
+account_shown (Some agent) profile past named before reply =
+    account_cell (refusal_in reply) named.verb before profile named.credit reply (account_of past agent)
 
 -- all cells that the steps before show
-abbrev pub past_cells : Sizes → Past → Named → Option Scene → List ℕ → Option LineView → List (Option Cell)
-past_cells sizes past named before line after =
-    account_shown named.agent sizes.profile past named before line ∷ journal_shown sizes (refusal_in line) named.verb past named.line
-    ∷ data_shown (refusal_in line) named past named.agent named.line before after
-    ∷ passed_shown (refusal_in line) named past named.agent named.line after ∷ []
+abbrev pub past_cells : Sizes → Past → Named → Option Scene → Reply → Option LineView → List (Option Cell)
+past_cells sizes past named before reply after =
+    account_shown named.agent sizes.profile past named before reply ∷ journal_shown sizes (refusal_in reply) named.verb past named.line
+    ∷ data_shown (refusal_in reply) named past named.agent named.line before after
+    ∷ passed_shown (refusal_in reply) named past named.agent named.line after ∷ []

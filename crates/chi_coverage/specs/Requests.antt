@@ -1,6 +1,6 @@
 -- The cells of loads, stores, drops and requests (docs/PROTOCOL.md, "The actions", "Kinds of request", "Start" and "A requester
 -- and its calls").
-use Rattle.std.specs.Prelude.{ℕ, List, [], ◌∷◌, Bool, true, false, Option, Some, None, if◌then◌else◌}
+use Rattle.std.specs.Prelude.{List, [], ◌∷◌, Bool, true, false, Option, Some, None, if◌then◌else◌}
 use Rattle.chi_flit.specs.declared.credit.Profile.{Profile}
 use Rattle.chi_flit.specs.declared.kind.Kind.{Kind}
 use Rattle.chi_flit.specs.declared.message.DatUp.{DatUp}
@@ -12,6 +12,8 @@ use Rattle.chi_flit.specs.declared.snoop.Snoop.{Snoop}
 use Rattle.chi_flit.specs.declared.state.State.{State}
 use Rattle.chi_flit.specs.Kind.{snoop_of}
 use Rattle.chi_slice.specs.Words.{Pending, Waiting}
+use Rattle.chi_replay.specs.declared.replies.Reply.{Reply}
+use Rattle.chi_replay.specs.declared.replies.Reply.TheVariants as replies
 use Rattle.chi_coverage.specs.declared.cells.Cell.{Cell}
 use Rattle.chi_coverage.specs.declared.cells.Cell.TheVariants as cells
 use Rattle.chi_coverage.specs.declared.cells.Shown.{Shown}
@@ -25,7 +27,6 @@ use Rattle.chi_coverage.specs.declared.scenes.OwnerSeen.{OwnerSeen}
 use Rattle.chi_coverage.specs.declared.scenes.OwnerSeen.TheVariants as owners
 use Rattle.chi_coverage.specs.declared.scenes.Scene.{Scene}
 use Rattle.chi_coverage.specs.declared.situations.Situation.TheVariants as situations
-use Rattle.chi_coverage.specs.Said.{says_retry}
 use Rattle.chi_coverage.specs.Cells.{cell_if, no_cells, one_cell, two_cells}
 use Rattle.chi_coverage.specs.Completions.{completion_cell}
 
@@ -56,17 +57,21 @@ issue_cells (Some kind) scene =
     ∷ cell_if (has_write scene) (cells.Situation situations.IssueBehindWrite) ∷ []
 
 -- "A requester and its calls": what becomes of a request that arrives
-abbrev pub arrival_of : Bool → List ℕ → Arrival
-arrival_of allow_retry line = if says_retry line then arrivals.Retried else (if allow_retry then arrivals.Admitted else arrivals.Resent)
+abbrev pub is_retry : Reply → Bool
+is_retry (replies.Retry ty) = true
+is_retry other = false
 
-abbrev pub arrive_if : Profile → Option Request → List ℕ → List (Option Cell)
-arrive_if profile None line = no_cells
-arrive_if profile (Some request) line =
-    two_cells (Some (cells.Requester (requester_cells.Arrive request.kind (arrival_of request.allow_retry line))))
-    (cell_if (says_retry line) (cells.Requester (requester_cells.Retry request.kind profile)))
+abbrev pub arrival_of : Bool → Reply → Arrival
+arrival_of allow_retry reply = if is_retry reply then arrivals.Retried else (if allow_retry then arrivals.Admitted else arrivals.Resent)
 
-abbrev pub arrive_cells : Profile → Scene → List ℕ → List (Option Cell)
-arrive_cells profile scene line = arrive_if profile scene.flits.req line
+abbrev pub arrive_if : Profile → Option Request → Reply → List (Option Cell)
+arrive_if profile None reply = no_cells
+arrive_if profile (Some request) reply =
+    two_cells (Some (cells.Requester (requester_cells.Arrive request.kind (arrival_of request.allow_retry reply))))
+    (cell_if (is_retry reply) (cells.Requester (requester_cells.Retry request.kind profile)))
+
+abbrev pub arrive_cells : Profile → Scene → Reply → List (Option Cell)
+arrive_cells profile scene reply = arrive_if profile scene.flits.req reply
 
 -- "Start": what the filter shows
 abbrev pub shown_to_asker : OwnerSeen → (others unique named : Bool) → Shown

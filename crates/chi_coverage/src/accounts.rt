@@ -1,16 +1,16 @@
 //! What the answers so far show of an agent's account, and the cells that it shows.
 
 ghost use Rattle.std.specs.Prelude.{◌≡◌, ◌<◌, ◌≤◌, IfOk};
-ghost use Rattle.chi_coverage.specs.Accounts.{told_account_after, account_cell, after_arrival, after_cancel, after_resend, after_return, after_see, after_spend, credits_said, digit_at, found_in, has_cancelled, has_unused_credit, has_two, count_at_type, one_less, one_credit_more, resend_cell, retry_cell, return_cell, some_place, types_seen};
-ghost use Rattle.chi_coverage.specs.Said.{refusal_in};
+ghost use Rattle.chi_coverage.specs.Accounts.{told_account_after, account_cell, after_arrival, after_cancel, after_resend, after_return, after_see, after_spend, credits_in, found_in, has_cancelled, has_unused_credit, has_two, count_at_type, one_less, one_credit_more, resend_cell, retry_cell, return_cell, some_place, types_seen};
+ghost use Rattle.chi_replay.specs.Replies.{refusal_in};
 
-use crate::answers::refusal_in;
 use crate::cells::{Cell, Verb};
 use crate::named::Named;
 use crate::places::{bool_place, credit_place};
 use crate::requester_cells::{CreditsFound, RequesterCell};
 use crate::scenes::Scene;
 use chi_flit::{CreditType, NoMemory, Profile, Refusal, Request, credit_type};
+use chi_replay::Reply;
 use chi_slice::Pending;
 
 /// What the answers so far show of an agent's account, by credit type.
@@ -18,10 +18,10 @@ use chi_slice::Pending;
 #[derive(Clone, Copy)]
 pub(crate) struct AccountView {
     /// The seen credits.
-    pub(crate) seen: [u64; 4],
+    pub(crate) seen: [u32; 4],
     /// The Riding and the Cancelled slots.
-    pub(crate) riding: [u64; 4],
-    pub(crate) cancelled: [u64; 4],
+    pub(crate) riding: [u32; 4],
+    pub(crate) cancelled: [u32; 4],
 }
 
 /// That of a new node.
@@ -32,14 +32,14 @@ pub(crate) const NO_ACCOUNT: AccountView = AccountView {
 };
 
 /// The number of the type.
-fn count_at_type(numbers: &[u64; 4], credit: CreditType) -> u64
+fn count_at_type(numbers: &[u32; 4], credit: CreditType) -> u32
     ensures { result ≡ count_at_type numbers.now credit }
 {
     numbers[credit_place(credit)]
 }
 
 /// One more of the type. Refused where the number is too large, as only endless memory could have it.
-fn one_credit_more(numbers: &[u64; 4], credit: CreditType) -> Result<[u64; 4], NoMemory>
+fn one_credit_more(numbers: &[u32; 4], credit: CreditType) -> Result<[u32; 4], NoMemory>
     ensures { IfOk result (λ more. more ≡ one_credit_more numbers.now credit) }
 {
     let place = credit_place(credit);
@@ -49,7 +49,7 @@ fn one_credit_more(numbers: &[u64; 4], credit: CreditType) -> Result<[u64; 4], N
 }
 
 /// One less of the type.
-fn one_less(numbers: &[u64; 4], credit: CreditType) -> [u64; 4]
+fn one_less(numbers: &[u32; 4], credit: CreditType) -> [u32; 4]
     ensures { result ≡ one_less numbers.now credit }
 {
     let place = credit_place(credit);
@@ -58,27 +58,14 @@ fn one_less(numbers: &[u64; 4], credit: CreditType) -> [u64; 4]
     less
 }
 
-/// The digit at a place of a line.
-fn digit_at(line: &[u8], place: usize) -> u64
-    ensures { result ≡ digit_at line.now place }
-{
-    if place < line.len() {
-        u64::from(line[place]).saturating_sub(48)
-    } else {
-        0
-    }
-}
-
 /// The numbers of a `see`.
-fn credits_said(line: &[u8]) -> [u64; 4]
-    ensures { result ≡ credits_said line.now }
+fn credits_in(reply: &Reply) -> [u32; 4]
+    ensures { result ≡ credits_in reply.now }
 {
-    [
-        digit_at(line, 11),
-        digit_at(line, 13),
-        digit_at(line, 15),
-        digit_at(line, 17),
-    ]
+    match reply {
+        Reply::Credits(credits) => credits.counts,
+        _ => [0; 4],
+    }
 }
 
 impl AccountView {
@@ -97,11 +84,11 @@ impl AccountView {
     }
 
     /// After a `see`.
-    fn after_see(&self, line: &[u8]) -> AccountView
-        ensures { result ≡ after_see line.now self.now }
+    fn after_see(&self, reply: &Reply) -> AccountView
+        ensures { result ≡ after_see reply.now self.now }
     {
         AccountView {
-            seen: credits_said(line),
+            seen: credits_in(reply),
             riding: self.riding,
             cancelled: self.cancelled,
         }
@@ -190,14 +177,14 @@ impl AccountView {
         profile: Profile,
         named: &Named,
         before: &Option<Scene>,
-        line: &[u8],
+        reply: &Reply,
     ) -> Result<AccountView, NoMemory>
         ensures { IfOk result (λ account. account
             ≡ told_account_after named.now.verb profile named.now.credit
-            before.now line.now self.now) }
+            before.now reply.now self.now) }
     {
         match (named.verb, before) {
-            (Verb::See, _) => Ok(self.after_see(line)),
+            (Verb::See, _) => Ok(self.after_see(reply)),
             (Verb::GiveBack, _) => Ok(self.after_return(named.credit)),
             (Verb::Resend, Some(scene)) => self.after_resend(profile, scene.pending),
             (Verb::Cancel, Some(scene)) => self.after_cancel(profile, scene.pending),
@@ -208,7 +195,7 @@ impl AccountView {
 }
 
 /// One where there is a credit of the type.
-fn some_place(numbers: &[u64; 4], ty: usize) -> usize
+fn some_place(numbers: &[u32; 4], ty: usize) -> usize
     requires { ty < 4 }
     ensures is { result ≡ some_place numbers.now ty }
     ensures low { result ≤ 1 }
@@ -217,7 +204,7 @@ fn some_place(numbers: &[u64; 4], ty: usize) -> usize
 }
 
 /// Of how many types there are credits.
-fn types_seen(numbers: &[u64; 4]) -> usize
+fn types_seen(numbers: &[u32; 4]) -> usize
     ensures { result ≡ types_seen numbers.now }
 {
     some_place(numbers, 0)
@@ -227,14 +214,14 @@ fn types_seen(numbers: &[u64; 4]) -> usize
 }
 
 /// Whether there are two credits of a type.
-fn has_two(numbers: &[u64; 4]) -> bool
+fn has_two(numbers: &[u32; 4]) -> bool
     ensures { result ≡ has_two numbers.now }
 {
     numbers[0] > 1 || numbers[1] > 1 || numbers[2] > 1 || numbers[3] > 1
 }
 
 /// What a `see` finds.
-fn found_in(numbers: &[u64; 4]) -> CreditsFound
+fn found_in(numbers: &[u32; 4]) -> CreditsFound
     ensures { result ≡ found_in numbers.now }
 {
     if has_two(numbers) {
@@ -283,15 +270,15 @@ pub(crate) fn account_cell(
     profile: Profile,
     named: &Named,
     before: &Option<Scene>,
-    line: &[u8],
+    reply: &Reply,
     account: &AccountView,
 ) -> Option<Cell>
-    ensures { result ≡ account_cell (refusal_in line.now) named.now.verb before.now
-        profile named.now.credit line.now account.now }
+    ensures { result ≡ account_cell (refusal_in reply.now) named.now.verb before.now
+        profile named.now.credit reply.now account.now }
 {
-    match (refusal_in(line), named.verb, before) {
+    match (reply.refusal(), named.verb, before) {
         (None, Verb::See, _) => {
-            let found = found_in(&credits_said(line));
+            let found = found_in(&credits_in(reply));
             Some(Cell::Requester(RequesterCell::Seen(found)))
         }
         (None, Verb::RetryAck, Some(scene)) => retry_cell(profile, scene.pending, account),

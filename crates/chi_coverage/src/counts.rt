@@ -13,6 +13,7 @@ use crate::past::{Past, past_cells};
 use crate::scenes::scene_named;
 use crate::steps::scene_cells;
 use chi_flit::NoMemory;
+use chi_replay::Reply;
 use chi_script::Command;
 use chi_slice::{Config, LineView};
 
@@ -46,22 +47,22 @@ pub(crate) fn count_step(
     past: &Past,
     command: Command,
     before: &Option<LineView>,
-    line: &[u8],
+    reply: &Reply,
     after: &Option<LineView>,
 ) -> Result<(), NoMemory>
     requires { length counts.old ≡ place_count }
     ensures { OnOk result (counts.new ≡ cells_counted counts.old
-        (cells_shown config.now past.now command before.now line.now after.now)) }
+        (cells_shown config.now past.now command before.now reply.now after.now)) }
 {
     let named = named_of(command);
     let scene = scene_named(before, named.agent);
     let profile = config.profile();
-    count_cells(counts, &outcome_cells(config, &named, &scene, line))?;
-    count_cells(counts, &limit_cells(config, &named, line))?;
-    count_cells(counts, &scene_cells(profile, &named, &scene, line, after))?;
-    count_cells(counts, &message_cells(&named, &scene, line))?;
+    count_cells(counts, &outcome_cells(config, &named, &scene, reply))?;
+    count_cells(counts, &limit_cells(config, &named, reply))?;
+    count_cells(counts, &scene_cells(profile, &named, &scene, reply, after))?;
+    count_cells(counts, &message_cells(&named, &scene, reply))?;
     count_cells(
         counts,
-        &past_cells(config, past, &named, &scene, line, after),
+        &past_cells(config, past, &named, &scene, reply, after),
     )
 }

@@ -4,7 +4,6 @@
 #![tactic(auto)]
 
 mod accounts;
-mod answers;
 mod cells;
 mod completions;
 mod counts;

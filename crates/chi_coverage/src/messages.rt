@@ -3,12 +3,12 @@
 ghost use Rattle.std.specs.Prelude.{◌≡◌};
 ghost use Rattle.chi_coverage.specs.Messages.{flight_cells, is_flight_empty, message_cell, message_cells, message_form};
 
-use crate::answers::refusal_in;
 use crate::cells::{Cell, Form, Verb, cell_if};
 use crate::named::Named;
 use crate::scenes::Scene;
 use crate::situations::Situation;
 use chi_flit::{Channel, DatUp, Msg, RspDown, RspUp};
+use chi_replay::Reply;
 use chi_slice::Cells;
 
 /// The form of a message.
@@ -69,10 +69,14 @@ fn flight_cells(cells: &Cells) -> [Option<Cell>; 7]
 }
 
 /// The cells of a `flits` that isn't refused.
-pub(crate) fn message_cells(named: &Named, before: &Option<Scene>, line: &[u8]) -> [Option<Cell>; 7]
-    ensures { result ≡ message_cells named.now before.now line.now }
+pub(crate) fn message_cells(
+    named: &Named,
+    before: &Option<Scene>,
+    reply: &Reply,
+) -> [Option<Cell>; 7]
+    ensures { result ≡ message_cells named.now before.now reply.now }
 {
-    match (refusal_in(line), named.verb, before) {
+    match (reply.refusal(), named.verb, before) {
         (None, Verb::Flits, Some(scene)) => flight_cells(&scene.flits),
         _ => [None, None, None, None, None, None, None],
     }

@@ -1,59 +1,78 @@
 //! The cells that a command has by its answer, and by the sizes of its node.
 
 ghost use Rattle.std.specs.Prelude.{◌≡◌};
-ghost use Rattle.chi_coverage.specs.Outcomes.{limit_cells, outcome_cells, own_cell, released_cell, slice_cell};
+ghost use Rattle.chi_coverage.specs.Outcomes.{limit_cells, outcome_cells, own_cell, own_grant, released_cell, released_in, slice_cell};
 
-use crate::answers::{refusal_in, says_agent, says_freed, says_granted, says_idle};
 use crate::cells::{Cell, NO_CELLS, Verb, cell_if};
 use crate::named::Named;
 use crate::refused::refused_cells;
 use crate::scenes::Scene;
 use crate::situations::Situation;
 use chi_flit::{Agent, Line};
+use chi_node::Released;
+use chi_replay::Reply;
 use chi_slice::Config;
 
-/// The cell of the entry that a command releases.
-fn released_cell(verb: Verb, line: &[u8]) -> Option<Cell>
-    ensures { result ≡ released_cell verb line.now }
+/// Where an entry went, if one was released.
+fn released_in(reply: &Reply) -> Option<Released>
+    ensures { result ≡ released_in reply.now }
 {
-    if says_granted(line) {
-        Some(Cell::Released(verb, true))
-    } else if says_freed(line) {
-        Some(Cell::Released(verb, false))
-    } else {
-        None
+    match reply {
+        Reply::Completed(_, released) => Some(*released),
+        Reply::Paid(released) => Some(*released),
+        _ => None,
+    }
+}
+
+/// The cell of the entry that a command releases.
+fn released_cell(verb: Verb, released: Option<Released>) -> Option<Cell>
+    ensures { result ≡ released_cell verb released }
+{
+    match released {
+        Some(Released::Granted(_)) => Some(Cell::Released(verb, true)),
+        Some(Released::Freed) => Some(Cell::Released(verb, false)),
+        None => None,
+    }
+}
+
+/// The cell of an entry that is granted to the agent itself.
+fn own_grant(agent: Agent, released: Option<Released>) -> Option<Cell>
+    ensures { result ≡ own_grant agent released }
+{
+    match released {
+        Some(Released::Granted(to)) => {
+            cell_if(to.0 == agent.0, Cell::Situation(Situation::OwnGrant))
+        }
+        _ => None,
     }
 }
 
 /// The cell of an entry that is granted to its own agent, or of no entry that is tended.
-fn own_cell(agent: Option<Agent>, line: &[u8]) -> Option<Cell>
-    ensures { result ≡ own_cell agent line.now }
+fn own_cell(agent: Option<Agent>, reply: &Reply) -> Option<Cell>
+    ensures { result ≡ own_cell agent reply.now }
 {
-    let agent = agent?;
-    if says_idle(line) {
-        Some(Cell::Situation(Situation::TendIdle))
-    } else if says_granted(line) && says_agent(line, agent) {
-        Some(Cell::Situation(Situation::OwnGrant))
-    } else {
-        None
+    match (agent, reply) {
+        (None, _) => None,
+        (Some(_), Reply::Idle) => Some(Cell::Situation(Situation::TendIdle)),
+        (Some(agent), _) => own_grant(agent, released_in(reply)),
     }
 }
 
-/// The cells that each command has, by its answer.
+/// The cells that each command has, by its reply.
 pub(crate) fn outcome_cells(
     config: &Config,
     named: &Named,
     before: &Option<Scene>,
-    line: &[u8],
+    reply: &Reply,
 ) -> [Option<Cell>; 3]
-    ensures { result ≡ outcome_cells config.now named.now before.now line.now }
+    ensures { result ≡ outcome_cells config.now named.now before.now reply.now }
 {
-    match refusal_in(line) {
+    match reply.refusal() {
         Some(refusal) => refused_cells(refusal, named, config.agents(), config.lines(), before),
         None => [
             Some(Cell::Done(named.verb)),
-            released_cell(named.verb, line),
-            own_cell(named.agent, line),
+            released_cell(named.verb, released_in(reply)),
+            own_cell(named.agent, reply),
         ],
     }
 }
@@ -72,10 +91,10 @@ fn slice_cell(config: &Config, verb: Verb, line: Option<Line>) -> Option<Cell>
 }
 
 /// The cells of the node's sizes; a refused command has none.
-pub(crate) fn limit_cells(config: &Config, named: &Named, line: &[u8]) -> [Option<Cell>; 3]
-    ensures { result ≡ limit_cells config.now named.now line.now }
+pub(crate) fn limit_cells(config: &Config, named: &Named, reply: &Reply) -> [Option<Cell>; 3]
+    ensures { result ≡ limit_cells config.now named.now reply.now }
 {
-    if refusal_in(line).is_some() {
+    if reply.refusal().is_some() {
         return NO_CELLS;
     }
     let eight = config.agents() == 8;

@@ -5,13 +5,13 @@ ghost use Rattle.chi_coverage.specs.Coverage.{past_shown};
 ghost use Rattle.chi_coverage.specs.Past.{account_of, account_shown, any_room, data_shown, has_room, journal_at, journal_number, journal_shown, no_past, past_after, past_cells, passed_shown, sharing_of, with_told_account, with_agent_step, with_journal, with_journal_step, with_line_step, with_sharing};
 
 use crate::accounts::{AccountView, NO_ACCOUNT, account_cell};
-use crate::answers::refusal_in;
 use crate::cells::Cell;
 use crate::journals::{JournalView, NO_JOURNAL, journal_cell};
 use crate::named::{Named, named_of};
 use crate::scenes::{Scene, scene_named};
 use crate::sharing::{NO_SHARING, Sharing, data_cell, passed_cell};
 use chi_flit::{Agent, Line, NoMemory, Profile, Refusal};
+use chi_replay::Reply;
 use chi_script::Command;
 use chi_slice::{Config, LineView};
 
@@ -112,15 +112,15 @@ impl Past {
         profile: Profile,
         named: &Named,
         before: &Option<Scene>,
-        line: &[u8],
+        reply: &Reply,
     ) -> Result<(), NoMemory>
         ensures { OnOk result (self.new
-            ≡ with_agent_step profile named.now before.now line.now named.now.agent self.old) }
+            ≡ with_agent_step profile named.now before.now reply.now named.now.agent self.old) }
     {
         match named.agent {
             Some(agent) => {
                 let old = self.account_of(agent);
-                let account = old.after(profile, named, before, line)?;
+                let account = old.after(profile, named, before, reply)?;
                 self.set_account(agent, account);
                 Ok(())
             }
@@ -161,15 +161,15 @@ impl Past {
         config: &Config,
         named: &Named,
         before: &Option<Scene>,
-        line: &[u8],
+        reply: &Reply,
     ) -> Result<(), NoMemory>
         ensures { OnOk result
-            (self.new ≡ past_after config.now self.old named.now before.now line.now) }
+            (self.new ≡ past_after config.now self.old named.now before.now reply.now) }
     {
-        match refusal_in(line) {
+        match reply.refusal() {
             Some(_) => Ok(()),
             None => {
-                self.follow_agent(config.profile(), named, before, line)?;
+                self.follow_agent(config.profile(), named, before, reply)?;
                 self.follow_journal(config, named)?;
                 self.follow_line(named, before);
                 Ok(())
@@ -183,14 +183,14 @@ impl Past {
         config: &Config,
         command: Command,
         before: &Option<LineView>,
-        line: &[u8],
+        reply: &Reply,
     ) -> Result<(), NoMemory>
         ensures { OnOk result
-            (self.new ≡ past_shown config.now self.old command before.now line.now) }
+            (self.new ≡ past_shown config.now self.old command before.now reply.now) }
     {
         let named = named_of(command);
         let scene = scene_named(before, named.agent);
-        self.follow_named(config, &named, &scene, line)
+        self.follow_named(config, &named, &scene, reply)
     }
 }
 
@@ -200,15 +200,15 @@ fn account_shown(
     past: &Past,
     named: &Named,
     before: &Option<Scene>,
-    line: &[u8],
+    reply: &Reply,
 ) -> Option<Cell>
     ensures { result
-        ≡ account_shown named.now.agent profile past.now named.now before.now line.now }
+        ≡ account_shown named.now.agent profile past.now named.now before.now reply.now }
 {
     match named.agent {
         Some(agent) => {
             let account = past.account_of(agent);
-            account_cell(profile, named, before, line, &account)
+            account_cell(profile, named, before, reply, &account)
         }
         None => None,
     }
@@ -299,14 +299,14 @@ pub(crate) fn past_cells(
     past: &Past,
     named: &Named,
     before: &Option<Scene>,
-    line: &[u8],
+    reply: &Reply,
     after: &Option<LineView>,
 ) -> [Option<Cell>; 4]
-    ensures { result ≡ past_cells config.now past.now named.now before.now line.now after.now }
+    ensures { result ≡ past_cells config.now past.now named.now before.now reply.now after.now }
 {
-    let refusal = refusal_in(line);
+    let refusal = reply.refusal();
     [
-        account_shown(config.profile(), past, named, before, line),
+        account_shown(config.profile(), past, named, before, reply),
         journal_shown(config, refusal, past, named),
         data_shown(refusal, past, named, before, after),
         passed_shown(refusal, past, named, after),

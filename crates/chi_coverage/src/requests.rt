@@ -1,15 +1,15 @@
 //! The cells of loads, stores, drops and requests.
 
 ghost use Rattle.std.specs.Prelude.{◌≡◌};
-ghost use Rattle.chi_coverage.specs.Requests.{arrival_of, arrive_cells, copy_cells, has_ack, has_write, issue_cells, pending_cells, shown_asking, shown_in, shown_leaving, start_cells};
+ghost use Rattle.chi_coverage.specs.Requests.{arrival_of, arrive_cells, copy_cells, has_ack, has_write, is_retry, issue_cells, pending_cells, shown_asking, shown_in, shown_leaving, start_cells};
 
-use crate::answers::says_retry;
 use crate::cells::{Cell, NO_CELLS, Shown, Verb, cell_if};
 use crate::completions::completion_cell;
 use crate::requester_cells::{Arrival, RequesterCell};
 use crate::scenes::{OwnerSeen, Scene};
 use crate::situations::Situation;
 use chi_flit::{DatUp, Kind, Profile, RspUp};
+use chi_replay::Reply;
 
 /// Whether write data of the agent is in flight.
 fn has_write(scene: &Scene) -> bool
@@ -49,11 +49,18 @@ pub(crate) fn issue_cells(kind: Option<Kind>, scene: &Scene) -> [Option<Cell>; 3
     }
 }
 
-/// What becomes of a request that arrives.
-fn arrival_of(allow_retry: bool, line: &[u8]) -> Arrival
-    ensures { result ≡ arrival_of allow_retry line.now }
+/// Whether a request was retried.
+fn is_retry(reply: &Reply) -> bool
+    ensures { result ≡ is_retry reply.now }
 {
-    if says_retry(line) {
+    matches!(reply, Reply::Retry(_))
+}
+
+/// What becomes of a request that arrives.
+fn arrival_of(allow_retry: bool, reply: &Reply) -> Arrival
+    ensures { result ≡ arrival_of allow_retry reply.now }
+{
+    if is_retry(reply) {
         Arrival::Retried
     } else if allow_retry {
         Arrival::Admitted
@@ -63,16 +70,16 @@ fn arrival_of(allow_retry: bool, line: &[u8]) -> Arrival
 }
 
 /// An arrival.
-pub(crate) fn arrive_cells(profile: Profile, scene: &Scene, line: &[u8]) -> [Option<Cell>; 3]
-    ensures { result ≡ arrive_cells profile scene.now line.now }
+pub(crate) fn arrive_cells(profile: Profile, scene: &Scene, reply: &Reply) -> [Option<Cell>; 3]
+    ensures { result ≡ arrive_cells profile scene.now reply.now }
 {
     match scene.flits.req {
         Some(request) => {
-            let arrival = arrival_of(request.allow_retry, line);
+            let arrival = arrival_of(request.allow_retry, reply);
             let retry = Cell::Requester(RequesterCell::Retry(request.kind, profile));
             [
                 Some(Cell::Requester(RequesterCell::Arrive(request.kind, arrival))),
-                cell_if(says_retry(line), retry),
+                cell_if(is_retry(reply), retry),
                 None,
             ]
         }

@@ -30,13 +30,12 @@ fn view_in<A: Allocator>(system: &System<A>, line: Option<Line>) -> Option<LineV
     }
 }
 
-/// Plays a command, and counts the cells of its step, where it is no filler. The text is room for its answer.
-fn count_command<A: Allocator, B: Allocator>(
+/// Plays a command, and counts the cells of its step, where it is no filler.
+fn count_command<A: Allocator>(
     config: &Config,
     system: &mut System<A>,
     command: &Command,
     filler: bool,
-    text: &mut String<B>,
     past: &mut Past,
     counts: &mut [u64],
 ) -> Result<(), NoMemory>
@@ -46,15 +45,13 @@ fn count_command<A: Allocator, B: Allocator>(
 {
     let line = named_of(*command).line;
     let before = view_in(system, line);
-    text.clear();
-    answer(system, *command, text)?;
+    let reply = answer(system, *command);
     let after = view_in(system, line);
-    let said = text.as_bytes();
     if filler {
-        return past.follow(config, *command, &before, said);
+        return past.follow(config, *command, &before, &reply);
     }
-    count_step(counts, config, past, *command, &before, said, &after)?;
-    past.follow(config, *command, &before, said)
+    count_step(counts, config, past, *command, &before, &reply, &after)?;
+    past.follow(config, *command, &before, &reply)
 }
 
 /// Whether a command at the line of this number is filler.
@@ -81,7 +78,6 @@ fn count_run<A: Allocator + Copy>(
         (map line_of_check checks.now) counts.old counts.new) }
 {
     let mut system = System::new(alloc, config)?;
-    let mut text = String::new(alloc);
     let mut past = Past::new();
     for check in checks {
         let filler = is_filler(fillers, check.line);
@@ -90,7 +86,6 @@ fn count_run<A: Allocator + Copy>(
             &mut system,
             &check.command,
             filler,
-            &mut text,
             &mut past,
             counts,
         )?;

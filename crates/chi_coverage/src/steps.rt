@@ -3,7 +3,6 @@
 ghost use Rattle.std.specs.Prelude.{◌≡◌};
 ghost use Rattle.chi_coverage.specs.Steps.{done_cells, scene_cells};
 
-use crate::answers::refusal_in;
 use crate::cells::{Cell, NO_CELLS, Verb};
 use crate::completions::{comp_cells, write_cells};
 use crate::named::Named;
@@ -11,6 +10,7 @@ use crate::requests::{arrive_cells, copy_cells, issue_cells, pending_cells, star
 use crate::scenes::{Scene, scene_at};
 use crate::snoops::{answer_cells, snoop_cells};
 use chi_flit::{Agent, Profile};
+use chi_replay::Reply;
 use chi_slice::LineView;
 
 /// The cells of a command that is done at a line.
@@ -19,16 +19,16 @@ fn done_cells(
     named: &Named,
     agent: Agent,
     scene: &Scene,
-    line: &[u8],
+    reply: &Reply,
     after: &Option<LineView>,
 ) -> [Option<Cell>; 3]
     ensures { result
-        ≡ done_cells profile named.now.verb named.now.kind agent scene.now line.now after.now }
+        ≡ done_cells profile named.now.verb named.now.kind agent scene.now reply.now after.now }
 {
     match named.verb {
         Verb::Load | Verb::Store | Verb::Drop => copy_cells(named.verb, scene),
         Verb::Issue => issue_cells(named.kind, scene),
-        Verb::Arrive => arrive_cells(profile, scene, line),
+        Verb::Arrive => arrive_cells(profile, scene, reply),
         Verb::Start => {
             let after = scene_at(after, agent);
             start_cells(scene, &after)
@@ -47,13 +47,13 @@ pub(crate) fn scene_cells(
     profile: Profile,
     named: &Named,
     before: &Option<Scene>,
-    line: &[u8],
+    reply: &Reply,
     after: &Option<LineView>,
 ) -> [Option<Cell>; 3]
-    ensures { result ≡ scene_cells profile named.now before.now line.now after.now }
+    ensures { result ≡ scene_cells profile named.now before.now reply.now after.now }
 {
-    match (refusal_in(line), named.agent, before) {
-        (None, Some(agent), Some(scene)) => done_cells(profile, named, agent, scene, line, after),
+    match (reply.refusal(), named.agent, before) {
+        (None, Some(agent), Some(scene)) => done_cells(profile, named, agent, scene, reply, after),
         _ => NO_CELLS,
     }
 }

@@ -6,8 +6,10 @@ use Rattle.chi_slice.specs.Words.{Sizes}
 use Rattle.chi_node.specs.System.{SystemState, opening_system}
 use Rattle.chi_replay.specs.Session.{machine_of, ports_of}
 use Rattle.chi_replay.proofs.Openings.{opening_machine, opening_views}
-use Rattle.chi_replay.specs.Turns.{TurnAnswer, Machine, machine_at_start, turn}
-use Rattle.chi_replay.specs.Texts.{MayAnswer, IsText, Ending, Says, opening_ports, text}
+use Rattle.chi_replay.specs.Replies.{reply_text}
+use Rattle.chi_replay.specs.declared.replies.Reply.{Reply}
+use Rattle.chi_replay.specs.Turns.{TurnAnswer, Machine, Turn, machine_at_start, turn}
+use Rattle.chi_replay.specs.Texts.{MayAnswer, IsText, Ending, Plays, Says, ending_text, opening_ports, text}
 use Rattle.chi_replay.proofs.Playing.{made_plays}
 use Rattle.chi_replay.proofs.Audited.{audits_tell}
 
@@ -24,6 +26,11 @@ leads_first config all z y written is none =
     (subst (λ (m : Machine). LeadsOn config all [] m (ports_of y) all) (sym (opening_machine config z y is))
     (subst (λ (ports : List PortView). LeadsOn config all [] (machine_at_start config) ports all) (sym (opening_views config z y is)) (leads_from config all)))
 
+-- a reply that was played, and printed
+pub says_reply : (t : Turn) (ports : List PortView) (m' : Machine) (ports' : List PortView) (written written' : List ℕ) (reply : Reply)
+    → (answers : List TurnAnswer) × Plays t ports answers reply m' ports' → written' ≡ written ++ (reply_text m'.home reply ++ (10 ∷ [])) → Says t ports m' ports' written written'
+says_reply t ports m' ports' written written' reply plays bytes = (plays.0, reply, plays.1, bytes)
+
 joined_line : (written said rest : List ℕ) → written ++ (said ++ (10 ∷ rest)) ≡ (written ++ (said ++ (10 ∷ []))) ++ rest
 joined_line written said rest = ap (λ (l : List ℕ). written ++ l) (sym (append_assoc said (10 ∷ []) rest)) ∙ sym (append_assoc written (said ++ (10 ∷ [])) rest)
 
@@ -32,10 +39,11 @@ pub leads_further : (config : Sizes) (all : List Command) (written written' : Li
     → LeadsOn config all written m ports (command ∷ rest) → Says (turn m command) ports m' ports' written written' → LeadsOn config all written' m' ports' rest
 leads_further config all written written' m m' ports ports' command rest leads says = λ later allowed.
     let mine = says.0 in
-    let said = says.1 in
-    let whole = leads (mine ++ later) (mine, later, said, m', ports', refl, says.2, allowed) in
-    let played = made_plays (turn m command) ports mine later said m' ports' says.2 in
-    let line : text m (command ∷ rest) (mine ++ later) ≡ said ++ (10 ∷ text m' rest later) = ap (λ (x : Ending). x.said ++ (10 ∷ text x.state rest x.left)) played in
+    let reply = says.1 in
+    let said = reply_text m'.home reply in
+    let whole = leads (mine ++ later) (mine, later, reply, m', ports', refl, says.2, allowed) in
+    let played = made_plays (turn m command) ports mine later reply m' ports' says.2 in
+    let line : text m (command ∷ rest) (mine ++ later) ≡ said ++ (10 ∷ text m' rest later) = ap (λ (x : Ending). ending_text x ++ (10 ∷ text x.state rest x.left)) played in
     let bytes : written ++ text m (command ∷ rest) (mine ++ later) ≡ written' ++ text m' rest later =
     ap (λ (l : List ℕ). written ++ l) line ∙ (joined_line written said (text m' rest later) ∙ ap (λ (l : List ℕ). l ++ text m' rest later) (sym says.3)) in
     subst (IsText config all) bytes whole

@@ -13,7 +13,6 @@ pub mod Fits
 pub mod Enough
 pub mod Lines
 pub mod PlainReplies
-pub mod PlainTurns
 pub mod AnswerLines
 pub mod ReportLemmas
 pub mod Reported

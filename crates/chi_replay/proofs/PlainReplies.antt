@@ -1,5 +1,5 @@
 -- No text of an answer has a line end in it.
-use Rattle.std.proofs.Common.{◌≡◌, ℕ, Bool, true, false, List, [], ◌∷◌, ◌++◌, codes, map, take, refl, is_some}
+use Rattle.std.proofs.Common.{◌≡◌, ℕ, Bool, true, false, List, [], ◌∷◌, ◌++◌, Option, Some, None, codes, map, take, refl, is_some}
 use Rattle.std.specs.Fmt.{decimal}
 use Rattle.std.specs.List.{flat_map}
 use Rattle.chi_flit.specs.declared.credit.CreditType.{CreditType}
@@ -28,16 +28,18 @@ use Rattle.chi_flit.specs.Message.{attempt_text, comp_data_text, data_up_text, m
 use Rattle.chi_flit.specs.Refusal.{refusal_number, refusal_text}
 use Rattle.chi_flit.specs.Snoop.{snoop_text}
 use Rattle.chi_flit.specs.State.{state_text}
-use Rattle.chi_slice.specs.Words.{Cells, LineView, Serving}
+use Rattle.chi_slice.specs.Words.{Cells, LineView, Serving, cells_of, line_view}
 use Rattle.chi_slice.specs.Servings as servings
+use Rattle.chi_node.specs.Home.{HomeState, node_flits_refusal, node_last, node_line, node_view_refusal}
 use Rattle.chi_node.specs.Words.{Released}
 use Rattle.chi_node.specs.Releases.{Granted, Freed}
 use Rattle.chi_slice.specs.declared.audits.Audit.{Audit}
 use Rattle.chi_replay.specs.declared.credits.SeenCredits.{SeenCredits}
 use Rattle.chi_replay.specs.declared.replies.Reply.{Reply}
-use Rattle.chi_replay.specs.declared.replies.Reply.TheVariants.{Done, Value, Admitted, Retry, Completed, Paid, Idle, Refused}
+use Rattle.chi_replay.specs.declared.replies.Reply.TheVariants.{Done, Value, Admitted, Retry, Completed, Paid, Idle, Credits, Refused}
+use Rattle.chi_replay.specs.declared.replies.Reply.TheVariants as replies
 use Rattle.chi_replay.specs.declared.totals.NodeTotals.{NodeTotals}
-use Rattle.chi_replay.specs.Replies.{agents_text, audit_text, copy_text, counts_text, credits_text, flits_text, joined_texts, members, messages_in, messages_text, released_text, reply_text, serving_text, shown_text, spaced_texts, totals_text, type_count, verdict_text, yes_no}
+use Rattle.chi_replay.specs.Replies.{agents_text, audit_text, copy_text, counts_text, flits_text, joined_texts, looked_text, members, messages_in, messages_text, refused_text, released_text, reply_text, serving_text, shown_text, spaced_texts, storm_totals_text, type_count, verdict_text, yes_no}
 use Rattle.chi_script.proofs.LackLemmas.{chained, decimal_lacks, lacks}
 
 -- a text without a line end
@@ -158,15 +160,8 @@ released (Granted agent) = behind (codes "granted ") refl (number agent.0)
 released Freed = word refl
 
 -- the answers
-pub reply : (r : Reply) → IsPlain (reply_text r)
-reply Done = word refl
-reply (Value value) = behind (codes "ok value ") refl (number value)
-reply (Admitted entry) = behind (codes "ok admitted ") refl (number entry.0)
-reply (Retry ty) = behind (codes "ok retry ") refl (credit ty)
-reply (Completed slot r) = behind (codes "ok completed ") refl (both (number slot.0) (behind (codes " ") refl (released r)))
-reply (Paid r) = behind (codes "ok ") refl (released r)
-reply Idle = word refl
-reply (Refused r) = behind (codes "refused ") refl (both (number (refusal_number r)) (behind (codes " ") refl (refusal r)))
+refused : (r : Refusal) → IsPlain (refused_text r)
+refused r = behind (codes "refused ") refl (both (number (refusal_number r)) (behind (codes " ") refl (refusal r)))
 
 yes_or_no : (b : Bool) → IsPlain (yes_no b)
 yes_or_no true = word refl
@@ -181,7 +176,7 @@ serving (servings.AwaitingWriteData agent k slot) = behind (codes "wrdata ") ref
 agents : (set : List Bool) → IsPlain (agents_text set)
 agents set = joined_plain decimal number (members set)
 
-pub shown : (count : ℕ) (view : LineView) → IsPlain (shown_text count view)
+shown : (count : ℕ) (view : LineView) → IsPlain (shown_text count view)
 shown count view =
     behind (codes "ok copies ") refl (both (joined_plain copy_text (λ copy. state copy.state) (take count view.copies))
     (behind (codes " named ") refl (both (agents view.named)
@@ -194,16 +189,16 @@ in_flight : (all : List Msg) → IsPlain (messages_text all)
 in_flight [] = word refl
 in_flight (m ∷ all) = spaced_plain message_text message (m ∷ all)
 
-pub flits : (cells : Cells) → IsPlain (flits_text cells)
+flits : (cells : Cells) → IsPlain (flits_text cells)
 flits cells = behind (codes "ok") refl (in_flight (messages_in cells))
 
 counts : (profile : Profile) (all : List ℕ) → IsPlain (counts_text profile all)
 counts profile all = spaced_plain decimal number (take (type_count profile) all)
 
-pub credits : (c : SeenCredits) → IsPlain (credits_text c)
+credits : (c : SeenCredits) → IsPlain (codes "ok credits" ++ counts_text c.profile c.counts)
 credits c = behind (codes "ok credits") refl (counts c.profile c.counts)
 
-pub totals : (t : NodeTotals) → IsPlain (totals_text t)
+totals : (t : NodeTotals) → IsPlain (codes "ok " ++ storm_totals_text t)
 totals t =
     behind (codes "ok ") refl
     (behind (codes "free") refl (both (counts t.profile t.free)
@@ -215,5 +210,24 @@ verdict : (b : Bool) → IsPlain (verdict_text b)
 verdict true = word refl
 verdict false = word refl
 
-pub audit : (a : Audit) → IsPlain (audit_text a)
+audit : (a : Audit) → IsPlain (audit_text a)
 audit a = behind (codes "ok loads ") refl (both (number a.loads) (behind (codes " stores ") refl (both (number a.stores) (behind (codes " ") refl (verdict a.coherent)))))
+
+looked : (o : Option Refusal) {text : List ℕ} → IsPlain text → IsPlain (looked_text o text)
+looked None is = is
+looked (Some r) is = refused r
+
+pub reply : (home : HomeState) (r : Reply) → IsPlain (reply_text home r)
+reply home Done = word refl
+reply home (Value value) = behind (codes "ok value ") refl (number value)
+reply home (Admitted entry) = behind (codes "ok admitted ") refl (number entry.0)
+reply home (Retry ty) = behind (codes "ok retry ") refl (credit ty)
+reply home (Completed slot r) = behind (codes "ok completed ") refl (both (number slot.0) (behind (codes " ") refl (released r)))
+reply home (Paid r) = behind (codes "ok ") refl (released r)
+reply home Idle = word refl
+reply home (Credits c) = credits c
+reply home (replies.Totals t) = totals t
+reply home (replies.Audit a) = audit a
+reply home (replies.Line l) = looked (node_view_refusal home l.0) (shown home.config.agents (line_view (node_line home l.0) (node_last home l.0)))
+reply home (replies.Flits agent l) = looked (node_flits_refusal home agent.0 l.0) (flits (cells_of (node_line home l.0) agent.0))
+reply home (Refused r) = refused r

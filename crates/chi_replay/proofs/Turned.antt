@@ -1,5 +1,5 @@
 -- What a node did for a command plays the command's turn.
-use Rattle.std.proofs.Common.{◌≡◌, ℕ, ◌<◌, Bool, true, false, List, [], ◌∷◌, ◌++◌, length, Option, Some, None, Result, Ok, Err, IfOk, OnOk, OnErr, refl, sym, ◌∙◌, ap, subst, arith}
+use Rattle.std.proofs.Common.{◌≡◌, ℕ, ◌<◌, Bool, true, false, List, [], ◌∷◌, length, Option, Some, None, Result, Ok, Err, IfOk, OnErr, refl, sym, ◌∙◌, ap, subst, arith}
 use Rattle.std.proofs.Math.ListN.{set}
 use Rattle.std.specs.Prelude.{slice_index}
 use Rattle.chi_flit.specs.declared.numbers.Agent.{Agent}
@@ -8,6 +8,7 @@ use Rattle.chi_flit.specs.declared.numbers.Line.{Line}
 use Rattle.chi_flit.specs.declared.numbers.Slot.{Slot}
 use Rattle.chi_flit.specs.declared.credit.CreditType.{CreditType}
 use Rattle.chi_flit.specs.declared.credit.CreditType.TheVariants.{T0, T1, T2, T3}
+use Rattle.chi_flit.specs.declared.credit.Profile.{Profile}
 use Rattle.chi_flit.specs.declared.action.Action.{Action}
 use Rattle.chi_flit.specs.declared.action.Effect.{Effect}
 use Rattle.chi_flit.specs.declared.action.Effect.TheVariants.{Completed, Nothing, Value}
@@ -27,30 +28,35 @@ use Rattle.chi_node.specs.Arrives.{Arrives}
 use Rattle.chi_node.specs.AfterStep.{CompletesRequest, Finishes, account_after, requester_after}
 use Rattle.chi_node.specs.Calls.{ArrivesAt, arrival_action, place_at}
 use Rattle.chi_script.specs.declared.commands.Command.TheVariants as commands
+use Rattle.chi_slice.specs.declared.audits.Audit.{Audit}
 use Rattle.chi_slice.specs.Audits.{IsAudited, loads_in}
 use Rattle.chi_node.specs.Headline.{Headline}
 use Rattle.chi_node.specs.Home.{slices_after, node_line, slice_of}
 use Rattle.chi_node.specs.System.{ArrivesIn, IsSystem, OthersStay, StepsIn, SystemState, arrive_refusal, requester_of, system_step_refusal}
-use Rattle.chi_replay.specs.Replies.{audit_text, reply_text, totals_text}
+use Rattle.chi_replay.specs.declared.replies.Reply.{Reply}
 use Rattle.chi_replay.specs.declared.replies.Reply.TheVariants as replies
 use Rattle.chi_node.specs.Outstanding.{Outstanding, outstanding_of, seen_counts}
 use Rattle.chi_replay.specs.Ports.{PortClaims, PortOwes, PortReleases, PortSpends}
 use Rattle.chi_replay.specs.Turns.{Claimed, Ends, Glanced, Judged, Machine, Owed, Spent, Turn, Went, act_turn, act_refusal, admitted_in, arrive, arriving, turn_of_attempt, by_type, completing, turn_after_action, less_one, or_refused, requester_after_action, requester_after_end, requester_in, with_action, with_arrival, with_end, with_state, turn}
 use Rattle.chi_replay.specs.NodeReplies.{arrival_reply, done_reply, step_reply, totals_told}
-use Rattle.chi_replay.specs.Session.{PlaysOn, SaysOn, machine_of, ports_of}
+use Rattle.chi_replay.specs.Session.{PlaysOn, machine_of, ports_of}
 use Rattle.chi_node.proofs.Acts.{claim_view, release_view, retry_view}
 use Rattle.chi_replay.proofs.Machines.{at_port, at_port_again, machine_after, outstanding_is, ports_after, ports_same, requester_at}
 use Rattle.chi_replay.proofs.Reasons.{act_same, arrives_low, few_there, steps_low}
 use Rattle.chi_replay.proofs.Seen.{counts_less, same_counts}
 
 -- what is refused says so, and what isn't goes on
-pub refused_plays : (y y' : SystemState) (o : Option Refusal) (refusal : Refusal) (t : Turn) → Some refusal ≡ o → y' ≡ y → PlaysOn (or_refused o (machine_of y) t) y y' (reply_text (replies.Refused refusal))
+pub refused_plays : (y y' : SystemState) (o : Option Refusal) (refusal : Refusal) (t : Turn) → Some refusal ≡ o → y' ≡ y → PlaysOn (or_refused o (machine_of y) t) y y' (replies.Refused refusal)
 refused_plays y y' o refusal t h same =
-    subst (λ (x : Option Refusal). PlaysOn (or_refused x (machine_of y) t) y y' (reply_text (replies.Refused refusal))) h
-    (subst (λ (z : SystemState). PlaysOn (or_refused (Some refusal) (machine_of y) t) y z (reply_text (replies.Refused refusal))) (sym same) ([], (refl, refl, refl)))
+    subst (λ (x : Option Refusal). PlaysOn (or_refused x (machine_of y) t) y y' (replies.Refused refusal)) h
+    (subst (λ (z : SystemState). PlaysOn (or_refused (Some refusal) (machine_of y) t) y z (replies.Refused refusal)) (sym same) ([], (refl, refl, refl)))
 
-pub allowed_plays : (y y' : SystemState) (o : Option Refusal) (t : Turn) (said : List ℕ) → None ≡ o → PlaysOn t y y' said → PlaysOn (or_refused o (machine_of y) t) y y' said
-allowed_plays y y' o t said h plays = subst (λ (x : Option Refusal). PlaysOn (or_refused x (machine_of y) t) y y' said) h plays
+pub allowed_plays : (y y' : SystemState) (o : Option Refusal) (t : Turn) (reply : Reply) → None ≡ o → PlaysOn t y y' reply → PlaysOn (or_refused o (machine_of y) t) y y' reply
+allowed_plays y y' o t reply h plays = subst (λ (x : Option Refusal). PlaysOn (or_refused x (machine_of y) t) y y' reply) h plays
+
+-- what is looked at
+pub looked_plays : (y : SystemState) (o : Option Refusal) (reply : Reply) → None ≡ o → PlaysOn (or_refused o (machine_of y) (Ends reply (machine_of y))) y y reply
+looked_plays y o reply h = allowed_plays y y o (Ends reply (machine_of y)) reply h ([], (refl, refl, refl))
 
 -- types of the same number
 same_type : (a b : CreditType) → credit_number a ≡ credit_number b → a ≡ b
@@ -86,7 +92,7 @@ arrived_state y y' agent l s arrived state home others shape slots seen = machin
 
 -- a first attempt that is admitted, one that is retried, and a resent request
 first_admitted : (y y' : SystemState) (agent : Agent) (l : Line) (s : ℕ) (e : Entry) → IsSystem y → agent.0 < y.home.config.agents → y'.home ≡ slices_after y.home (arrival_action agent.0 l (Admitted e)) → OthersStay y y' agent
-    → Arrives true s (Admitted e) (requester_of y agent.0) (requester_of y' agent.0) → PlaysOn (turn_of_attempt true (machine_of y) agent l s (slot_record_at (requester_of y agent.0).slots s).credit) y y' (reply_text (replies.Admitted e))
+    → Arrives true s (Admitted e) (requester_of y agent.0) (requester_of y' agent.0) → PlaysOn (turn_of_attempt true (machine_of y) agent l s (slot_record_at (requester_of y agent.0).slots s).credit) y y' (replies.Admitted e)
 first_admitted y y' agent l s e k low home others h =
     let r : RequesterState = requester_of y agent.0 in
     let ty : CreditType = (slot_record_at r.slots s).credit in (
@@ -99,7 +105,7 @@ first_admitted y y' agent l s e k low home others h =
     )
 
 first_retried : (y y' : SystemState) (agent : Agent) (l : Line) (s : ℕ) (told : CreditType) → IsSystem y → agent.0 < y.home.config.agents → y'.home ≡ slices_after y.home (arrival_action agent.0 l (Retried told)) → OthersStay y y' agent
-    → Arrives true s (Retried told) (requester_of y agent.0) (requester_of y' agent.0) → PlaysOn (turn_of_attempt true (machine_of y) agent l s (slot_record_at (requester_of y agent.0).slots s).credit) y y' (reply_text (replies.Retry told))
+    → Arrives true s (Retried told) (requester_of y agent.0) (requester_of y' agent.0) → PlaysOn (turn_of_attempt true (machine_of y) agent l s (slot_record_at (requester_of y agent.0).slots s).credit) y y' (replies.Retry told)
 first_retried y y' agent l s told k low home others h =
     let r : RequesterState = requester_of y agent.0 in
     let ty : CreditType = (slot_record_at r.slots s).credit in
@@ -113,13 +119,13 @@ first_retried y y' agent l s told k low home others h =
         (
           ports_of y',
           at_port_again y agent (ports_of y') mid (requester_of y' agent.0).port (λ before after. PortOwes before ty after) k low (ports_after y y' agent others) after,
-          (ap (λ (c : CreditType). reply_text (replies.Retry c)) (same_type told ty h.0), arrived_state y y' agent l s (Retried ty) states.Refused home others h.2.1 (ap (λ (x : RequesterState). x.slots) h.3) (same_counts r.port (requester_of y' agent.0).port h.2.1 h.2.2), refl),
+          (ap (λ (c : CreditType). replies.Retry c) (same_type told ty h.0), arrived_state y y' agent l s (Retried ty) states.Refused home others h.2.1 (ap (λ (x : RequesterState). x.slots) h.3) (same_counts r.port (requester_of y' agent.0).port h.2.1 h.2.2), refl),
         ),
       ),
     )
 
 resent_admitted : (y y' : SystemState) (agent : Agent) (l : Line) (s : ℕ) (e : Entry) → IsSystem y → agent.0 < y.home.config.agents → y'.home ≡ slices_after y.home (arrival_action agent.0 l (Admitted e)) → OthersStay y y' agent
-    → Arrives false s (Admitted e) (requester_of y agent.0) (requester_of y' agent.0) → PlaysOn (turn_of_attempt false (machine_of y) agent l s (slot_record_at (requester_of y agent.0).slots s).credit) y y' (reply_text (replies.Admitted e))
+    → Arrives false s (Admitted e) (requester_of y agent.0) (requester_of y' agent.0) → PlaysOn (turn_of_attempt false (machine_of y) agent l s (slot_record_at (requester_of y agent.0).slots s).credit) y y' (replies.Admitted e)
 resent_admitted y y' agent l s e k low home others h =
     let r : RequesterState = requester_of y agent.0 in
     let ty : CreditType = (slot_record_at r.slots s).credit in
@@ -140,25 +146,25 @@ resent_admitted y y' agent l s e k low home others h =
     )
 
 attempt_plays : (y y' : SystemState) (agent : Agent) (l : Line) (s : ℕ) (first : Bool) (arrived : Arrived) → IsSystem y → agent.0 < y.home.config.agents → y'.home ≡ slices_after y.home (arrival_action agent.0 l arrived) → OthersStay y y' agent
-    → Arrives first s arrived (requester_of y agent.0) (requester_of y' agent.0) → PlaysOn (turn_of_attempt first (machine_of y) agent l s (slot_record_at (requester_of y agent.0).slots s).credit) y y' (reply_text (arrival_reply (Ok arrived)))
+    → Arrives first s arrived (requester_of y agent.0) (requester_of y' agent.0) → PlaysOn (turn_of_attempt first (machine_of y) agent l s (slot_record_at (requester_of y agent.0).slots s).credit) y y' (arrival_reply (Ok arrived))
 attempt_plays y y' agent l s true (Admitted e) k low home others h = first_admitted y y' agent l s e k low home others h
 attempt_plays y y' agent l s true (Retried told) k low home others h = first_retried y y' agent l s told k low home others h
 attempt_plays y y' agent l s false (Admitted e) k low home others h = resent_admitted y y' agent l s e k low home others h
 attempt_plays y y' agent l s false (Retried told) k low home others h = absurd h
 
 arriving_plays : (y y' : SystemState) (agent : Agent) (l : Line) (o : Option Request) (arrived : Arrived) → IsSystem y → agent.0 < y.home.config.agents → y'.home ≡ slices_after y.home (arrival_action agent.0 l arrived) → OthersStay y y' agent
-    → ArrivesAt o arrived (requester_of y agent.0) (requester_of y' agent.0) → PlaysOn (arriving (machine_of y) agent l o) y y' (reply_text (arrival_reply (Ok arrived)))
+    → ArrivesAt o arrived (requester_of y agent.0) (requester_of y' agent.0) → PlaysOn (arriving (machine_of y) agent l o) y y' (arrival_reply (Ok arrived))
 arriving_plays y y' agent l None arrived k low home others h = absurd h
 arriving_plays y y' agent l (Some request) arrived k low home others h =
-    subst (λ (o : Outstanding). PlaysOn (turn_of_attempt request.allow_retry (machine_of y) agent l request.slot.0 (slot_record_at o.slots request.slot.0).credit) y y' (reply_text (arrival_reply (Ok arrived)))) (sym (requester_at y agent))
+    subst (λ (o : Outstanding). PlaysOn (turn_of_attempt request.allow_retry (machine_of y) agent l request.slot.0 (slot_record_at o.slots request.slot.0).credit) y y' (arrival_reply (Ok arrived))) (sym (requester_at y agent))
     (attempt_plays y y' agent l request.slot.0 request.allow_retry arrived k low home others h)
 
 -- an arrival
 pub arrive_plays : (y y' : SystemState) (agent : Agent) (l : Line) (result : Result Arrived Refusal) → IsSystem y → refusal_of result ≡ arrive_refusal y agent.0 l.0 → IfOk result (λ arrived. ArrivesIn y y' agent l arrived) → OnErr result (y' ≡ y)
-    → PlaysOn (arrive (machine_of y) agent l) y y' (reply_text (arrival_reply result))
+    → PlaysOn (arrive (machine_of y) agent l) y y' (arrival_reply result)
 arrive_plays y y' agent l (Err refusal) k h ok err = refused_plays y y' (arrive_refusal y agent.0 l.0) refusal _ h err
 arrive_plays y y' agent l (Ok arrived) k h ok err =
-    allowed_plays y y' (arrive_refusal y agent.0 l.0) _ (reply_text (arrival_reply (Ok arrived))) h
+    allowed_plays y y' (arrive_refusal y agent.0 l.0) _ (arrival_reply (Ok arrived)) h
     (arriving_plays y y' agent l (cells_of (node_line y.home l.0) agent.0).req arrived k (arrives_low y agent l k h) ok.home ok.others ok.requester)
 
 -- the table's state after a step that completes nothing
@@ -176,7 +182,7 @@ stepped_state y y' action home others is =
 
 -- a step that completes a request
 completing_plays : (y y' : SystemState) (action : Action) (slot : Slot) (released : Released) → IsSystem y → action.agent.0 < y.home.config.agents → y'.home ≡ slices_after y.home action → OthersStay y y' action.agent
-    → CompletesRequest slot.0 released (requester_of y action.agent.0) (requester_of y' action.agent.0) → PlaysOn (completing (state_at (requester_of y action.agent.0).slots slot.0) (machine_of y) action slot) y y' (reply_text (replies.Completed slot released))
+    → CompletesRequest slot.0 released (requester_of y action.agent.0) (requester_of y' action.agent.0) → PlaysOn (completing (state_at (requester_of y action.agent.0).slots slot.0) (machine_of y) action slot) y y' (replies.Completed slot released)
 completing_plays y y' action slot released k low home others c =
     let m : Machine = machine_of y in
     let r : RequesterState = requester_of y action.agent.0 in
@@ -185,7 +191,7 @@ completing_plays y y' action slot released k low home others c =
     outstanding_is (requester_of y' action.agent.0) (requester_after_end (outstanding_of r) slot) (ap (λ (z : Shape). z.sizes) c.credits.1) (ap (λ (x : RequesterState). x.slots) c.after) (same_counts r.port (requester_of y' action.agent.0).port c.credits.1 c.credits.2)
     ∙ ap (λ (o : Outstanding). requester_after_end o slot) (sym (requester_at y action.agent)) in
     let state : machine_of y' ≡ with_end m action slot = machine_after y y' action.agent _ _ home others ended in
-    subst (λ (x : SlotState). PlaysOn (completing x m action slot) y y' (reply_text (replies.Completed slot released))) (sym c.acted.1) (
+    subst (λ (x : SlotState). PlaysOn (completing x m action slot) y y' (replies.Completed slot released)) (sym c.acted.1) (
       Went released ∷ [],
       (
         ports_of y',
@@ -195,44 +201,22 @@ completing_plays y y' action slot released k low home others c =
     )
 
 done_plays : (y y' : SystemState) (action : Action) (effect : Effect) (o : Option Released) → IsSystem y → action.agent.0 < y.home.config.agents → y'.home ≡ slices_after y.home action → OthersStay y y' action.agent
-    → Finishes (place_at (slice_of y.home action.line.0) action) action.step effect o (requester_of y action.agent.0) (requester_of y' action.agent.0) → PlaysOn (turn_after_action effect (machine_of y) action) y y' (reply_text (done_reply effect o))
+    → Finishes (place_at (slice_of y.home action.line.0) action) action.step effect o (requester_of y action.agent.0) (requester_of y' action.agent.0) → PlaysOn (turn_after_action effect (machine_of y) action) y y' (done_reply effect o)
 done_plays y y' action Nothing o k low home others h = let at = stepped_state y y' action home others h.1 in ([], (refl, at.0, at.1))
 done_plays y y' action (Value word) o k low home others h = let at = stepped_state y y' action home others h.1 in ([], (refl, at.0, at.1))
 done_plays y y' action (Completed slot) None k low home others h = absurd h.0
 done_plays y y' action (Completed slot) (Some released) k low home others h =
-    subst (λ (o : Outstanding). PlaysOn (completing (state_at o.slots slot.0) (machine_of y) action slot) y y' (reply_text (replies.Completed slot released))) (sym (requester_at y action.agent))
+    subst (λ (o : Outstanding). PlaysOn (completing (state_at o.slots slot.0) (machine_of y) action slot) y y' (replies.Completed slot released)) (sym (requester_at y action.agent))
     (completing_plays y y' action slot released k low home others h.1)
 
 -- a step
 pub step_plays : (y y' : SystemState) (action : Action) (result : Result Stepped Refusal) → IsSystem y → refusal_of result ≡ system_step_refusal y action → IfOk result (λ stepped. StepsIn y y' action stepped) → OnErr result (y' ≡ y)
-    → PlaysOn (act_turn (machine_of y) action) y y' (reply_text (step_reply result))
+    → PlaysOn (act_turn (machine_of y) action) y y' (step_reply result)
 step_plays y y' action (Err refusal) k h ok err = refused_plays y y' (act_refusal (machine_of y) action) refusal _ (h ∙ sym (act_same y action)) err
 step_plays y y' action (Ok stepped) k h ok err =
-    allowed_plays y y' (act_refusal (machine_of y) action) _ (reply_text (step_reply (Ok stepped))) (h ∙ sym (act_same y action))
-    (subst (λ (e : Effect). PlaysOn (turn_after_action e (machine_of y) action) y y' (reply_text (done_reply stepped.effect stepped.released))) ok.effect
+    allowed_plays y y' (act_refusal (machine_of y) action) _ (step_reply (Ok stepped)) (h ∙ sym (act_same y action))
+    (subst (λ (e : Effect). PlaysOn (turn_after_action e (machine_of y) action) y y' (done_reply stepped.effect stepped.released)) ok.effect
     (done_plays y y' action stepped.effect stepped.released k (steps_low y action k h) ok.home ok.others ok.requester))
-
--- a turn that was played says its line, with its end
-pub said_on : (y y' : SystemState) (t : Turn) (said before after : List ℕ) → PlaysOn t y y' said → after ≡ before ++ (said ++ (10 ∷ [])) → SaysOn t y y' before after
-said_on y y' t said before after plays is = (plays.0, said, plays.1, is)
-
--- a turn that ends at once, where it isn't refused
-pub answered_on : (y y' : SystemState) (t : Turn) (said before after : List ℕ) {T E : Type 0} (put : Result T E) → PlaysOn t y y' said → OnOk put (after ≡ before ++ (said ++ (10 ∷ []))) → OnOk put (SaysOn t y y' before after)
-answered_on y y' t said before after (Ok x) plays bytes = said_on y y' t said before after plays bytes
-answered_on y y' t said before after (Err e) plays bytes = bytes
-
-pub shown_on : (y : SystemState) (o : Option Refusal) (said before after : List ℕ) → None ≡ o → after ≡ before ++ (said ++ (10 ∷ [])) → SaysOn (or_refused o (machine_of y) (Ends said (machine_of y))) y y before after
-shown_on y o said before after h is = said_on y y (or_refused o (machine_of y) (Ends said (machine_of y))) said before after (allowed_plays y y o (Ends said (machine_of y)) said h ([], (refl, refl, refl))) is
-
--- what follows from what holds where a call succeeded
-on_ok : {T E : Type 0} (r : Result T E) {P Q : Type 0} → OnOk r P → (P → Q) → OnOk r Q
-on_ok (Ok value) h f = f h
-on_ok (Err error) h f = h
-
--- a refusal that was put behind the text
-pub refused_on : (y y' : SystemState) (o : Option Refusal) (refusal : Refusal) (t : Turn) (before after : List ℕ) {T E : Type 0} (put : Result T E) → Some refusal ≡ o → y' ≡ y → OnOk put (after ≡ before ++ (reply_text (replies.Refused refusal) ++ (10 ∷ [])))
-    → OnOk put (SaysOn (or_refused o (machine_of y) t) y y' before after)
-refused_on y y' o refusal t before after put h same said = on_ok put said (said_on y y' (or_refused o (machine_of y) t) (reply_text (replies.Refused refusal)) before after (refused_plays y y' o refusal t h same))
 
 -- a list of four numbers holds one for each credit type
 abbrev typed : List ℕ → CreditType → ℕ
@@ -263,16 +247,24 @@ counts_typed counts four =
     ∙ (ap (λ (n : List ℕ). record counts { free = by_type (typed counts.free); hand = by_type (typed counts.hand); promised = n }) (four_typed counts.promised four.promised)
     ∙ ap (λ (n : List ℕ). record (typed_counts counts) { owed = n }) (four_typed counts.owed four.owed)))
 
-pub glance_says : (y : SystemState) (counts : Counts) (before after : List ℕ) → AreFours counts → after ≡ before ++ (totals_text (totals_told counts y.home.config.profile) ++ (10 ∷ [])) → SaysOn (turn (machine_of y) commands.Totals) y y before after
-glance_says y counts before after four h = (
+pub glance_plays : (y : SystemState) (counts : Counts) (profile : Profile) → AreFours counts → profile ≡ y.home.config.profile → PlaysOn (turn (machine_of y) commands.Totals) y y (replies.Totals (totals_told counts profile))
+glance_plays y counts profile four h = (
   Glanced (typed counts.free) (typed counts.hand) (typed counts.promised) (typed counts.owed) ∷ [],
-  totals_text (totals_told counts y.home.config.profile),
-  (ports_of y, refl, (ap (λ (n : Counts). totals_text (totals_told n y.home.config.profile)) (counts_typed counts four), refl, refl)),
-  h,
+  (ports_of y, refl, (ap (λ (p : Profile). replies.Totals (totals_told counts p)) h ∙ ap (λ (n : Counts). replies.Totals (totals_told n y.home.config.profile)) (counts_typed counts four), refl, refl)),
 )
 
 -- an audit: the loads, the stores, and the verdict on the slices, where the headline holds
-pub audit_says : (y : SystemState) (loads stores : ℕ) (coherent : Bool) (before after : List ℕ) → IsAudited y.home.slices loads stores coherent → Headline y
-    → after ≡ before ++ (audit_text (record { loads = loads; stores = stores; coherent = coherent }) ++ (10 ∷ [])) → SaysOn (turn (machine_of y) commands.Audit) y y before after
-audit_says y loads stores coherent before after k headline h =
-    (Judged coherent ∷ [], audit_text (record { loads = loads; stores = stores; coherent = coherent }), (ports_of y, (k.coherent, refl, (y, refl, refl, headline)), (ap (λ n. audit_text (record { loads = n; stores = stores; coherent = coherent })) k.loads ∙ ap (λ n. audit_text (record { loads = loads_in y.home.slices; stores = n; coherent = coherent })) k.stores, refl, refl)), h)
+pub audit_plays : (y : SystemState) (audit : Audit) → IsAudited y.home.slices audit.loads audit.stores audit.coherent → Headline y → PlaysOn (turn (machine_of y) commands.Audit) y y (replies.Audit audit)
+audit_plays y audit k headline = (
+  Judged audit.coherent ∷ [],
+  (
+    ports_of y,
+    (k.coherent, refl, (y, refl, refl, headline)),
+    (
+      ap (λ (n : ℕ). replies.Audit (record { loads = n; stores = audit.stores; coherent = audit.coherent })) k.loads
+          ∙ ap (λ (n : ℕ). replies.Audit (record { loads = loads_in y.home.slices; stores = n; coherent = audit.coherent })) k.stores,
+      refl,
+      refl,
+    ),
+  ),
+)

@@ -1,7 +1,7 @@
 -- The text of each answer of a replay, without the line feed that ends its line
 -- (docs/FORMATS.md, "Replay files", and docs/PROTOCOL.md, "Messages"), and what a storm
 -- prints as they do ("The output of a storm").
-use Rattle.std.specs.Prelude.{ℕ, List, [], ◌∷◌, ◌++◌, Bool, true, false, is_some, map, take, codes, option_to_list}
+use Rattle.std.specs.Prelude.{ℕ, List, [], ◌∷◌, ◌++◌, Bool, true, false, Option, Some, None, is_some, map, take, codes, option_to_list}
 use Rattle.std.specs.List.{filter, flat_map, range_with_len}
 use Rattle.std.specs.Fmt.{decimal}
 use Rattle.chi_flit.specs.declared.credit.Profile.{Profile}
@@ -11,15 +11,16 @@ use Rattle.chi_flit.specs.declared.message.Channel.TheVariants as channels
 use Rattle.chi_flit.specs.declared.message.Msg.{Msg}
 use Rattle.chi_flit.specs.Credit.{credit_text}
 use Rattle.chi_flit.specs.Message.{message_text}
+use Rattle.chi_flit.specs.declared.refusal.Refusal.{Refusal}
 use Rattle.chi_flit.specs.Refusal.{refusal_number, refusal_text}
 use Rattle.chi_flit.specs.State.{state_text}
-use Rattle.chi_slice.specs.Words.{cell_of, is_in, Cells, CopyView, LineView, Serving}
+use Rattle.chi_slice.specs.Words.{cell_of, cells_of, is_in, line_view, Cells, CopyView, LineView, Serving}
 use Rattle.chi_slice.specs.Servings as servings
+use Rattle.chi_node.specs.Home.{HomeState, node_flits_refusal, node_last, node_line, node_view_refusal}
 use Rattle.chi_tracker.specs.declared.released.Released.{Released}
 use Rattle.chi_tracker.specs.declared.released.Released.TheVariants.{Granted, Freed}
 use Rattle.chi_replay.specs.declared.replies.Reply.{Reply}
-use Rattle.chi_replay.specs.declared.replies.Reply.TheVariants.{Done, Value, Admitted, Retry, Completed, Paid, Idle, Refused}
-use Rattle.chi_replay.specs.declared.credits.SeenCredits.{SeenCredits}
+use Rattle.chi_replay.specs.declared.replies.Reply.TheVariants as replies
 use Rattle.chi_replay.specs.declared.totals.NodeTotals.{NodeTotals}
 use Rattle.chi_slice.specs.declared.audits.Audit.{Audit}
 
@@ -28,16 +29,13 @@ abbrev pub released_text : Released → List ℕ
 released_text (Granted agent) = codes "granted " ++ decimal agent.0
 released_text Freed = codes "freed"
 
--- what a command that does something answers
-abbrev pub reply_text : Reply → List ℕ
-reply_text Done = codes "ok"
-reply_text (Value value) = codes "ok value " ++ decimal value
-reply_text (Admitted entry) = codes "ok admitted " ++ decimal entry.0
-reply_text (Retry credit) = codes "ok retry " ++ credit_text credit
-reply_text (Completed slot released) = codes "ok completed " ++ (decimal slot.0 ++ (codes " " ++ released_text released))
-reply_text (Paid released) = codes "ok " ++ released_text released
-reply_text Idle = codes "ok idle"
-reply_text (Refused refusal) = codes "refused " ++ (decimal (refusal_number refusal) ++ (codes " " ++ refusal_text refusal))
+-- why nothing was done, where a reply says so
+abbrev pub refusal_in : Reply → Option Refusal
+refusal_in (replies.Refused refusal) = Some refusal
+refusal_in other = None
+
+abbrev pub refused_text : Refusal → List ℕ
+refused_text refusal = codes "refused " ++ (decimal (refusal_number refusal) ++ (codes " " ++ refusal_text refusal))
 
 -- the texts of a list with commas between them, and `-` where it is empty
 abbrev pub joined_texts : {A : Type 0} → (A → List ℕ) → List A → List ℕ
@@ -110,10 +108,6 @@ type_count Four = 4
 abbrev pub counts_text : Profile → List ℕ → List ℕ
 counts_text profile counts = spaced_texts decimal (take (type_count profile) counts)
 
--- `see`
-abbrev pub credits_text : SeenCredits → List ℕ
-credits_text credits = codes "ok credits" ++ counts_text credits.profile credits.counts
-
 -- the entries by type, and the owed credits
 abbrev pub storm_totals_text : NodeTotals → List ℕ
 storm_totals_text totals =
@@ -121,10 +115,6 @@ storm_totals_text totals =
     ++ (codes " hand" ++ (counts_text totals.profile totals.hand
     ++ (codes " promised" ++ (counts_text totals.profile totals.promised
     ++ (codes " owed" ++ counts_text totals.profile totals.owed))))))
-
--- `totals`
-abbrev pub totals_text : NodeTotals → List ℕ
-totals_text totals = codes "ok " ++ storm_totals_text totals
 
 -- what an audit finds
 abbrev pub verdict_text : Bool → List ℕ
@@ -134,3 +124,24 @@ verdict_text false = codes "broken"
 -- `audit`
 abbrev pub audit_text : Audit → List ℕ
 audit_text audit = codes "ok loads " ++ (decimal audit.loads ++ (codes " stores " ++ (decimal audit.stores ++ (codes " " ++ verdict_text audit.coherent))))
+
+-- what is looked at, where it is there
+abbrev pub looked_text : Option Refusal → List ℕ → List ℕ
+looked_text None text = text
+looked_text (Some refusal) text = refused_text refusal
+
+-- the line of a reply; a line and its flits are shown as they are in the home then
+abbrev pub reply_text : HomeState → Reply → List ℕ
+reply_text home replies.Done = codes "ok"
+reply_text home (replies.Value value) = codes "ok value " ++ decimal value
+reply_text home (replies.Admitted entry) = codes "ok admitted " ++ decimal entry.0
+reply_text home (replies.Retry credit) = codes "ok retry " ++ credit_text credit
+reply_text home (replies.Completed slot released) = codes "ok completed " ++ (decimal slot.0 ++ (codes " " ++ released_text released))
+reply_text home (replies.Paid released) = codes "ok " ++ released_text released
+reply_text home replies.Idle = codes "ok idle"
+reply_text home (replies.Credits credits) = codes "ok credits" ++ counts_text credits.profile credits.counts
+reply_text home (replies.Totals totals) = codes "ok " ++ storm_totals_text totals
+reply_text home (replies.Audit audit) = audit_text audit
+reply_text home (replies.Line l) = looked_text (node_view_refusal home l.0) (shown_text home.config.agents (line_view (node_line home l.0) (node_last home l.0)))
+reply_text home (replies.Flits agent l) = looked_text (node_flits_refusal home agent.0 l.0) (flits_text (cells_of (node_line home l.0) agent.0))
+reply_text home (replies.Refused refusal) = refused_text refusal

@@ -1,7 +1,6 @@
 -- The text of a list of commands, under the tracker's answers, and which answers are allowed
 -- (docs/FORMATS.md, "Replay files").
-use Rattle.std.specs.Prelude.{◌≡◌, ◌⊎◌, ◌↔◌, ℕ, All, IsTrue, List, [], ◌∷◌, ◌++◌, Some, codes, slice_get, slice_set, Ok}
-use Rattle.std.specs.Fmt.{decimal}
+use Rattle.std.specs.Prelude.{◌≡◌, ◌↔◌, ℕ, All, Bool, IsTrue, List, [], ◌∷◌, ◌++◌, Some, slice_get, slice_set, Ok}
 use Rattle.chi_flit.specs.declared.numbers.Agent.{Agent}
 use Rattle.chi_script.specs.declared.commands.Command.{Command}
 use Rattle.chi_script.specs.declared.commands.Command.TheVariants as commands
@@ -14,26 +13,33 @@ use Rattle.chi_node.specs.Home.{HomeState}
 use Rattle.chi_node.specs.Headline.{Headline, views_in}
 use Rattle.chi_node.specs.System.{SystemState}
 use Rattle.chi_slice.specs.Audits.{loads_in, stores_in}
+use Rattle.chi_replay.specs.declared.replies.Reply.{Reply}
+use Rattle.chi_replay.specs.declared.replies.Reply.TheVariants as replies
+use Rattle.chi_replay.specs.Replies.{reply_text}
 use Rattle.chi_replay.specs.Ports.{PortClaims, PortGivesBack, PortOwes, PortReleases, PortSees, PortSpends, PortTends}
 use Rattle.chi_replay.specs.Turns.{TurnAnswer, TurnCall, Claim, Claimed, GiveBack, Glance, Glanced, Judge, Judged, Owe, Owed, Release, See, Saw, Spend, Spent, Tend, Tended, Went, Turn, Asks, Ends, Machine, machine_at_start, turn}
 
--- the line that a turn says, the state that it leaves, and the answers that it leaves over
+-- the reply of a turn, the state that it leaves, and the answers that it leaves over
 pub record Ending : Type 0 where
-  pub said : List ℕ
+  pub reply : Reply
   pub state : Machine
   pub left : List TurnAnswer
 
 -- a turn under the next answers; where one is lacking, which no allowed list does, it goes on as after Owed
 abbrev pub ending : Turn → List TurnAnswer → Ending
-ending (Ends said m) answers = record { said = said; state = m; left = answers }
+ending (Ends reply m) answers = record { reply = reply; state = m; left = answers }
 ending (Asks call next) [] = ending (next Owed) []
 ending (Asks call next) (answer ∷ answers) = ending (next answer) answers
+
+-- the line that it says
+abbrev pub ending_text : Ending → List ℕ
+ending_text end = reply_text end.state.home end.reply
 
 -- a line for each command
 abbrev pub text : Machine → List Command → List TurnAnswer → List ℕ
 text m [] answers = []
 text m (command ∷ rest) answers =
-    (ending (turn m command) answers).said ++ (10 ∷ text (ending (turn m command) answers).state rest (ending (turn m command) answers).left)
+    ending_text (ending (turn m command) answers) ++ (10 ∷ text (ending (turn m command) answers).state rest (ending (turn m command) answers).left)
 
 -- the port of the agent, which has one, goes on so, and the other ports stay
 abbrev pub AtPort : Agent → List PortView → List PortView → (PortView → PortView → Type 0) → Type 0
@@ -59,48 +65,39 @@ Permits old (Judge home) (Judged coherent) new = (IsTrue coherent ↔ All IsCohe
 Permits old call other new = ⊥
 
 -- a turn, played with just these answers
-abbrev pub Plays : Turn → List PortView → List TurnAnswer → List ℕ → Machine → List PortView → Type 0
-Plays (Ends said' m) old [] said state new = (said ≡ said') × (state ≡ m) × (new ≡ old)
-Plays (Ends said' m) old (answer ∷ answers) said state new = ⊥
-Plays (Asks call next) old [] said state new = ⊥
-Plays (Asks call next) old (answer ∷ answers) said state new =
-    (mid : List PortView) × Permits old call answer mid × Plays (next answer) mid answers said state new
+abbrev pub Plays : Turn → List PortView → List TurnAnswer → Reply → Machine → List PortView → Type 0
+Plays (Ends reply' m) old [] reply state new = (reply ≡ reply') × (state ≡ m) × (new ≡ old)
+Plays (Ends reply' m) old (answer ∷ answers) reply state new = ⊥
+Plays (Asks call next) old [] reply state new = ⊥
+Plays (Asks call next) old (answer ∷ answers) reply state new =
+    (mid : List PortView) × Permits old call answer mid × Plays (next answer) mid answers reply state new
 
 -- a turn was played, and its line, with its end, was put behind the bytes
 abbrev pub Says : Turn → List PortView → Machine → List PortView → List ℕ → List ℕ → Type 0
 Says played old state new before after =
-    (answers : List TurnAnswer) × (said : List ℕ) × Plays played old answers said state new × (after ≡ before ++ (said ++ (10 ∷ [])))
+    (answers : List TurnAnswer) × (reply : Reply) × Plays played old answers reply state new × (after ≡ before ++ (reply_text state.home reply ++ (10 ∷ [])))
 
 -- the answers that a list of commands may get
 abbrev pub MayAnswer : Machine → List PortView → List Command → List TurnAnswer → Type 0
 MayAnswer m ports [] answers = answers ≡ []
-MayAnswer m ports (command ∷ rest) answers = (mine later : List TurnAnswer) × (said : List ℕ) × (state : Machine) × (new : List PortView)
-    × (answers ≡ mine ++ later) × Plays (turn m command) ports mine said state new × MayAnswer state new rest later
+MayAnswer m ports (command ∷ rest) answers = (mine later : List TurnAnswer) × (reply : Reply) × (state : Machine) × (new : List PortView)
+    × (answers ≡ mine ++ later) × Plays (turn m command) ports mine reply state new × MayAnswer state new rest later
 
 -- the views of the ports to a new node's tracker
 abbrev pub opening_ports : Sizes → List PortView
 opening_ports config = new_ports (shape_of config.entries config.agents) 0 config.agents
 
--- an audit's line: the loads and the stores in the journals of the slices, and a word
-abbrev pub audit_line : List SliceState → List ℕ → List ℕ
-audit_line slices word = codes "ok loads " ++ (decimal (loads_in slices) ++ (codes " stores " ++ (decimal (stores_in slices) ++ word)))
-
--- what an audit of slices says: `coherent` exactly where each line of each slice is coherent and each
--- journal is legal
-abbrev pub TellsSlices : List SliceState → List ℕ → Type 0
-TellsSlices slices said =
-    (All IsCoherentSlice slices × (said ≡ audit_line slices (codes " coherent")))
-    ⊎ ((All IsCoherentSlice slices → ⊥) × (said ≡ audit_line slices (codes " broken")))
-
--- a command's line, where it is an audit, tells what the slices are
-abbrev pub TellsAudit : Command → List SliceState → List ℕ → Type 0
-TellsAudit commands.Audit slices said = TellsSlices slices said
-TellsAudit other slices said = Unit {0}
+-- a command's reply, where it is an audit, tells what the slices are: the loads and the stores in their journals, and
+-- whether each line of each slice is coherent and each journal legal
+abbrev pub TellsAudit : Command → List SliceState → Reply → Type 0
+TellsAudit commands.Audit slices reply =
+    (coherent : Bool) × (IsTrue coherent ↔ All IsCoherentSlice slices) × (reply ≡ replies.Audit (record { loads = loads_in slices; stores = stores_in slices; coherent = coherent }))
+TellsAudit other slices reply = Unit {0}
 
 -- each audit among the commands tells what the slices are when its turn comes
 abbrev pub AuditsTell : Machine → List Command → List TurnAnswer → Type 0
 AuditsTell m [] answers = Unit {0}
-AuditsTell m (command ∷ rest) answers = TellsAudit command m.home.slices (ending (turn m command) answers).said
+AuditsTell m (command ∷ rest) answers = TellsAudit command m.home.slices (ending (turn m command) answers).reply
     × AuditsTell (ending (turn m command) answers).state rest (ending (turn m command) answers).left
 
 -- bytes that are the text of the commands on a new node, under some allowed answers, and whose audits tell

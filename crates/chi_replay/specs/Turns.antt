@@ -18,7 +18,7 @@ use Rattle.chi_flit.specs.Credit.{credit_number}
 use Rattle.chi_script.specs.declared.commands.Command.{Command}
 use Rattle.chi_script.specs.declared.commands.Command.TheVariants as commands
 use Rattle.chi_node.specs.Words.{Released, SlotState, after_finish, idle_slot, all_idle, lowest_cancelled, slots_with_state, slot_record_at, state_at}
-use Rattle.chi_slice.specs.Words.{cells_of, effect_of, line_view, Sizes}
+use Rattle.chi_slice.specs.Words.{cells_of, effect_of, Sizes}
 use Rattle.chi_node.specs.SlotStates as states
 use Rattle.chi_node.specs.declared.answers.Arrived.{Arrived}
 use Rattle.chi_node.specs.declared.answers.Arrived.TheVariants as arrivals
@@ -26,8 +26,7 @@ use Rattle.chi_node.specs.AfterStep.{account_after}
 use Rattle.chi_node.specs.Outstanding.{Outstanding, arrival_refusal, give_back_refusal, see_refusal, step_refusal, tend_refusal, typed_refusal}
 use Rattle.chi_node.specs.Calls.{arrival_action, place_at}
 use Rattle.chi_slice.specs.Audits.{loads_in, stores_in}
-use Rattle.chi_node.specs.Home.{HomeState, slices_after, node_flits_refusal, node_last, node_line, opening_home, slice_of, node_view_refusal}
-use Rattle.chi_replay.specs.Replies.{audit_text, credits_text, flits_text, reply_text, shown_text, totals_text}
+use Rattle.chi_node.specs.Home.{HomeState, slices_after, node_flits_refusal, node_line, opening_home, slice_of, node_view_refusal}
 use Rattle.chi_replay.specs.declared.replies.Reply.{Reply}
 use Rattle.chi_replay.specs.declared.replies.Reply.TheVariants as replies
 use Rattle.chi_replay.specs.declared.totals.NodeTotals.{NodeTotals}
@@ -86,23 +85,20 @@ pub data TurnAnswer : Type 0 where
   Glanced : (free hand promised owed : CreditType → ℕ) → TurnAnswer
   Judged : Bool → TurnAnswer
 
--- a command's turn: it ends with a line and a state, or asks, and goes on with the answer
+-- a command's turn: it ends with a reply and a state, or asks, and goes on with the answer
 pub data Turn : Type 0 where
-  Ends : (said : List ℕ) → Machine → Turn
+  Ends : Reply → Machine → Turn
   Asks : TurnCall → (TurnAnswer → Turn) → Turn
-
-abbrev pub says : Reply → Machine → Turn
-says reply m = Ends (reply_text reply) m
 
 -- refused, or what comes else
 abbrev pub or_refused : Option Refusal → Machine → Turn → Turn
 or_refused None m else_turn = else_turn
-or_refused (Some refusal) m else_turn = says (replies.Refused refusal) m
+or_refused (Some refusal) m else_turn = Ends (replies.Refused refusal) m
 
 -- the end of what never comes: an answer that isn't one of the call's, or a completed request that has no
 -- entry
 abbrev pub never : Machine → Turn
-never m = Ends [] m
+never m = Ends replies.Done m
 
 -- why an action isn't done
 abbrev pub act_refusal : Machine → Action → Option Refusal
@@ -126,7 +122,7 @@ abbrev pub with_end : Machine → Action → Slot → Machine
 with_end m action slot = with_requester (record m { home = slices_after m.home action }) action.agent (requester_after_end (requester_in m action.agent) slot)
 
 abbrev pub turn_after_release : Machine → Slot → TurnAnswer → Turn
-turn_after_release m slot (Went released) = says (replies.Completed slot released) m
+turn_after_release m slot (Went released) = Ends (replies.Completed slot released) m
 turn_after_release m slot other = never m
 
 -- a request is complete, and its slot's entry is released
@@ -136,8 +132,8 @@ completing other m action slot = never m
 
 -- an action that is done
 abbrev pub turn_after_action : Effect → Machine → Action → Turn
-turn_after_action effects.Nothing m action = says replies.Done (with_action m action)
-turn_after_action (effects.Value word) m action = says (replies.Value word) (with_action m action)
+turn_after_action effects.Nothing m action = Ends replies.Done (with_action m action)
+turn_after_action (effects.Value word) m action = Ends (replies.Value word) (with_action m action)
 turn_after_action (effects.Completed slot) m action = completing (state_at (requester_in m action.agent).slots slot.0) m action slot
 
 abbrev pub act_turn : Machine → Action → Turn
@@ -155,18 +151,18 @@ abbrev pub machine_after_retry : Machine → Agent → Line → ℕ → CreditTy
 machine_after_retry m agent l s ty = with_arrival m agent l (arrivals.Retried ty) (with_state (requester_in m agent) s states.Refused)
 
 abbrev pub turn_after_owe : Machine → CreditType → TurnAnswer → Turn
-turn_after_owe m ty Owed = says (replies.Retry ty) m
+turn_after_owe m ty Owed = Ends (replies.Retry ty) m
 turn_after_owe m ty other = never m
 
 -- a first attempt, by what the claim answers
 abbrev pub turn_after_claim : Machine → Agent → Line → ℕ → CreditType → TurnAnswer → Turn
-turn_after_claim m agent l s ty (Claimed (Some entry)) = says (replies.Admitted entry) (with_arrival m agent l (arrivals.Admitted entry) (admitted_in m agent s entry))
+turn_after_claim m agent l s ty (Claimed (Some entry)) = Ends (replies.Admitted entry) (with_arrival m agent l (arrivals.Admitted entry) (admitted_in m agent s entry))
 turn_after_claim m agent l s ty (Claimed None) = Asks (Owe agent ty) (turn_after_owe (machine_after_retry m agent l s ty) ty)
 turn_after_claim m agent l s ty other = never m
 
 -- a resent request, by the entry of the credit that is spent for it
 abbrev pub turn_after_spend : Machine → Agent → Line → ℕ → CreditType → TurnAnswer → Turn
-turn_after_spend m agent l s ty (Spent entry) = says (replies.Admitted entry) (with_arrival m agent l (arrivals.Admitted entry) (less_one (admitted_in m agent s entry) ty))
+turn_after_spend m agent l s ty (Spent entry) = Ends (replies.Admitted entry) (with_arrival m agent l (arrivals.Admitted entry) (less_one (admitted_in m agent s entry) ty))
 turn_after_spend m agent l s ty other = never m
 
 -- a request of slot s and a credit type arrives, with AllowRetry or without
@@ -182,7 +178,7 @@ abbrev pub arrive : Machine → Agent → Line → Turn
 arrive m agent l = or_refused (arrival_refusal (slice_of m.home l.0) agent.0 l.0) m (arriving m agent l (cells_of (node_line m.home l.0) agent.0).req)
 
 abbrev pub turn_after_see : Machine → Agent → TurnAnswer → Turn
-turn_after_see m agent (Saw counts) = Ends (credits_text (record { counts = counts; profile = m.home.config.profile })) (with_requester m agent (record (requester_in m agent) { seen = counts }))
+turn_after_see m agent (Saw counts) = Ends (replies.Credits (record { counts = counts; profile = m.home.config.profile })) (with_requester m agent (record (requester_in m agent) { seen = counts }))
 turn_after_see m agent other = never m
 
 -- a requester whose lowest Cancelled slot of the type is Idle, and one seen credit of the type gone
@@ -190,7 +186,7 @@ abbrev pub after_return : Outstanding → CreditType → Outstanding
 after_return r ty = less_one (record r { slots = slice_set r.slots (lowest_cancelled r.slots (credit_number ty)) idle_slot }) ty
 
 abbrev pub credit_given_back : Machine → Agent → CreditType → TurnAnswer → Turn
-credit_given_back m agent ty (Went released) = says (replies.Paid released) (with_requester m agent (after_return (requester_in m agent) ty))
+credit_given_back m agent ty (Went released) = Ends (replies.Paid released) (with_requester m agent (after_return (requester_in m agent) ty))
 credit_given_back m agent ty other = never m
 
 -- why a call of an agent for a type isn't done
@@ -205,8 +201,8 @@ give_back m agent None = or_refused (return_refusal m agent None) m (never m)
 give_back m agent (Some ty) = or_refused (return_refusal m agent (Some ty)) m (Asks (GiveBack agent ty) (credit_given_back m agent ty))
 
 abbrev pub turn_after_tend : Machine → TurnAnswer → Turn
-turn_after_tend m (Tended None) = says replies.Idle m
-turn_after_tend m (Tended (Some released)) = says (replies.Paid released) m
+turn_after_tend m (Tended None) = Ends replies.Idle m
+turn_after_tend m (Tended (Some released)) = Ends (replies.Paid released) m
 turn_after_tend m other = never m
 
 abbrev pub tend : Machine → Agent → Option CreditType → Turn
@@ -223,21 +219,21 @@ totals_of profile free hand promised owed =
     record { free = by_type free; hand = by_type hand; promised = by_type promised; owed = by_type owed; profile = profile }
 
 abbrev pub turn_after_glance : Machine → TurnAnswer → Turn
-turn_after_glance m (Glanced free hand promised owed) = Ends (totals_text (totals_of m.home.config.profile free hand promised owed)) m
+turn_after_glance m (Glanced free hand promised owed) = Ends (replies.Totals (totals_of m.home.config.profile free hand promised owed)) m
 turn_after_glance m other = never m
 
 -- the loads, the stores and the verdict
 abbrev pub turn_after_verdict : Machine → TurnAnswer → Turn
 turn_after_verdict m (Judged coherent) =
-    Ends (audit_text (record { loads = loads_in m.home.slices; stores = stores_in m.home.slices; coherent = coherent })) m
+    Ends (replies.Audit (record { loads = loads_in m.home.slices; stores = stores_in m.home.slices; coherent = coherent })) m
 turn_after_verdict m other = never m
 
 -- the table of the commands
 abbrev pub turn : Machine → Command → Turn
 turn m commands.Totals = Asks Glance (turn_after_glance m)
 turn m commands.Audit = Asks (Judge m.home) (turn_after_verdict m)
-turn m (commands.Show l) = or_refused (node_view_refusal m.home l.0) m (Ends (shown_text m.home.config.agents (line_view (node_line m.home l.0) (node_last m.home l.0))) m)
-turn m (commands.Flits agent l) = or_refused (node_flits_refusal m.home agent.0 l.0) m (Ends (flits_text (cells_of (node_line m.home l.0) agent.0)) m)
+turn m (commands.Show l) = or_refused (node_view_refusal m.home l.0) m (Ends (replies.Line l) m)
+turn m (commands.Flits agent l) = or_refused (node_flits_refusal m.home agent.0 l.0) m (Ends (replies.Flits agent l) m)
 turn m (commands.Arrive agent l) = arrive m agent l
 turn m (commands.See agent) = or_refused (see_refusal m.home agent.0) m (Asks (See agent) (turn_after_see m agent))
 turn m (commands.GiveBack agent ty) = give_back m agent ty

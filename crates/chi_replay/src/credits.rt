@@ -1,6 +1,7 @@
 //! The answer of `see`.
 
-ghost use Rattle.chi_replay.specs.Replies.{credits_text};
+ghost use Rattle.std.specs.Prelude.{◌++◌, codes};
+ghost use Rattle.chi_replay.specs.Replies.{counts_text};
 
 use crate::numbers::type_count;
 use crate::prints::{Printable, print_numbers};
@@ -17,7 +18,7 @@ pub struct SeenCredits {
 }
 
 impl Printable for SeenCredits {
-    ghost text = { credits_text };
+    ghost text = { λ credits. codes "ok credits" ++ counts_text credits.profile credits.counts };
 
     fn print<A: Allocator>(&self, printed: &mut String<A>) -> Result<(), AllocError> {
         let types = type_count(self.profile);

@@ -1,16 +1,23 @@
-//! The answers of the commands that do something.
+//! The answers of the commands, and their text.
 
-ghost use Rattle.std.specs.Prelude.{◌≡◌, ◌++◌, OnOk, string_bytes};
+ghost use Rattle.std.specs.Prelude.{◌≡◌, [], ◌∷◌, ◌++◌, OnOk, string_bytes};
 ghost use Rattle.std.specs.Fmt.{decimal};
-ghost use Rattle.chi_replay.specs.Replies.{released_text, reply_text};
+ghost use Rattle.chi_replay.specs.declared.replies.Reply.TheVariants as replies;
+ghost use Rattle.chi_replay.specs.Replies.{refusal_in, refused_text, released_text, reply_text};
 
+use crate::credits::SeenCredits;
+use crate::flights::InFlight;
 use crate::prints::{Printable, print_number};
-use chi_flit::{CreditType, Entry, Refusal, Slot};
+use crate::shown::Shown;
+use crate::totals::NodeTotals;
+use chi_flit::{Agent, CreditType, Entry, Line, NoMemory, Refusal, Slot};
+use chi_node::System;
+use chi_slice::Audit;
 use chi_tracker::Released;
 use std::alloc::{AllocError, Allocator};
 
-/// What a command that does something answers. It prints as its line of the output, without the line
-/// feed.
+/// What a command answers. A line and its flits aren't in it: it says that they are there, and its text
+/// shows them.
 /// Source: `docs/FORMATS.md`, "Replay files".
 #[derive(Clone, Copy, Debug, PartialEq, Eq)]
 pub enum Reply {
@@ -29,14 +36,57 @@ pub enum Reply {
     Paid(Released),
     /// `ok idle`: no entry was released, since nobody was owed one or none was free.
     Idle,
+    /// `ok credits C0 C1 ..`: the seen credits by type.
+    Credits(SeenCredits),
+    /// `ok free .. hand .. promised .. owed ..`: the entries and the owed credits by type.
+    Totals(NodeTotals),
+    /// `ok loads N stores N VERDICT`: what an audit found.
+    Audit(Audit),
+    /// `ok copies ..`: this line is there.
+    Line(Line),
+    /// `ok FLIT ..` or `ok none`: this agent and this line are there.
+    Flits(Agent, Line),
     /// `refused NUMBER NAME`: nothing was done.
     Refused(Refusal),
 }
 
-impl Printable for Reply {
-    ghost text = { reply_text };
+impl Reply {
+    /// Why nothing was done, where it is so.
+    /// Source: `docs/PROTOCOL.md`, "Refusals".
+    pub fn refusal(&self) -> Option<Refusal>
+        ensures { result ≡ refusal_in self.now }
+    {
+        match self {
+            Reply::Refused(refusal) => Some(*refusal),
+            _ => None,
+        }
+    }
 
-    fn print<A: Allocator>(&self, printed: &mut String<A>) -> Result<(), AllocError> {
+    /// Puts its line, with the line end, behind what was printed before. A line and its flits are shown as
+    /// they are in the system now. Refused where memory for the text runs out.
+    /// Source: `docs/FORMATS.md`, "Replay files".
+    pub fn print<A: Allocator, B: Allocator>(
+        &self,
+        system: &System<A>,
+        printed: &mut String<B>,
+    ) -> Result<(), NoMemory>
+        ensures { OnOk result (string_bytes printed.new
+            ≡ string_bytes printed.old ++ (reply_text system.now.home self.now ++ (10 ∷ []))) }
+    {
+        self.put(system, printed)?;
+        printed.push('\n')?;
+        Ok(())
+    }
+
+    /// Puts its text there.
+    fn put<A: Allocator, B: Allocator>(
+        &self,
+        system: &System<A>,
+        printed: &mut String<B>,
+    ) -> Result<(), AllocError>
+        ensures { OnOk result (string_bytes printed.new
+            ≡ string_bytes printed.old ++ reply_text system.now.home self.now) }
+    {
         match self {
             Reply::Done => printed.push_str("ok"),
             Reply::Value(value) => print_numbered("ok value ", *value, printed),
@@ -52,11 +102,77 @@ impl Printable for Reply {
                 print_released(*released, printed)
             }
             Reply::Idle => printed.push_str("ok idle"),
-            Reply::Refused(refusal) => {
-                let number = refusal.number();
-                write!(printed, "refused {number} {refusal}")
-            }
+            Reply::Credits(credits) => credits.print(printed),
+            Reply::Totals(totals) => print_seldom(totals, printed),
+            Reply::Audit(audit) => print_seldom(audit, printed),
+            Reply::Line(line) => print_line(system, *line, printed),
+            Reply::Flits(agent, line) => print_flits(system, *agent, *line, printed),
+            Reply::Refused(refusal) => print_refused(*refusal, printed),
         }
+    }
+}
+
+/// Prints why nothing was done.
+fn print_refused<A: Allocator>(refusal: Refusal, printed: &mut String<A>) -> Result<(), AllocError>
+    ensures { OnOk result
+        (string_bytes printed.new ≡ string_bytes printed.old ++ refused_text refusal) }
+{
+    let number = refusal.number();
+    write!(printed, "refused {number} {refusal}")
+}
+
+/// Prints what is asked for seldom: it isn't inlined, so that the frame of the others stays small.
+#[inline(never)]
+fn print_seldom<W: Printable, A: Allocator>(
+    part: &W,
+    printed: &mut String<A>,
+) -> Result<(), AllocError>
+    ensures { OnOk result
+        (string_bytes printed.new ≡ string_bytes printed.old ++ W.text part.now) }
+{
+    part.print(printed)
+}
+
+/// Prints all parts of a line. It isn't inlined either.
+#[inline(never)]
+fn print_line<A: Allocator, B: Allocator>(
+    system: &System<A>,
+    line: Line,
+    printed: &mut String<B>,
+) -> Result<(), AllocError>
+    ensures { OnOk result (string_bytes printed.new
+        ≡ string_bytes printed.old ++ reply_text system.now.home (replies.Line line)) }
+{
+    match system.view(line) {
+        Ok(view) => {
+            let agents = system.config().agents();
+            let shown = Shown {
+                agents,
+                view: &view,
+            };
+            shown.print(printed)
+        }
+        Err(refusal) => print_refused(refusal, printed),
+    }
+}
+
+/// Prints the flits of an agent and a line. It isn't inlined either.
+#[inline(never)]
+fn print_flits<A: Allocator, B: Allocator>(
+    system: &System<A>,
+    agent: Agent,
+    line: Line,
+    printed: &mut String<B>,
+) -> Result<(), AllocError>
+    ensures { OnOk result (string_bytes printed.new
+        ≡ string_bytes printed.old ++ reply_text system.now.home (replies.Flits agent line)) }
+{
+    match system.flits(agent, line) {
+        Ok(cells) => {
+            let flits = InFlight(&cells);
+            flits.print(printed)
+        }
+        Err(refusal) => print_refused(refusal, printed),
     }
 }
 

@@ -29,7 +29,8 @@ pub fn run<A: Allocator + Copy>(
     let mut system = System::new(alloc, config)?;
     let mut text = String::new(alloc);
     for command in commands {
-        answer(&mut system, *command, &mut text)?;
+        let reply = answer(&mut system, *command);
+        reply.print(&system, &mut text)?;
     }
     Ok(text)
 }
@@ -54,7 +55,8 @@ pub fn run_lines<A: Allocator + Copy>(
     let mut number = 2;
     while let Some((line, after)) = first_line(rest) {
         let command = command_in(line, number)?;
-        answer(&mut system, command, &mut text)?;
+        let reply = answer(&mut system, command);
+        reply.print(&system, &mut text)?;
         rest = after;
         number += 1;
     }

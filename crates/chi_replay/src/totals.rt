@@ -1,8 +1,8 @@
 //! The answer of `totals`.
 
-ghost use Rattle.std.specs.Prelude.{◌≡◌, ◌++◌, OnOk, string_bytes};
+ghost use Rattle.std.specs.Prelude.{◌≡◌, ◌++◌, OnOk, codes, string_bytes};
 ghost use Rattle.std.specs.Fmt.{decimal};
-ghost use Rattle.chi_replay.specs.Replies.{storm_totals_text, spaced_texts, totals_text};
+ghost use Rattle.chi_replay.specs.Replies.{storm_totals_text, spaced_texts};
 
 use crate::numbers::type_count;
 use crate::prints::{Printable, print_numbers};
@@ -28,7 +28,7 @@ pub struct NodeTotals {
 pub struct StormTotals(pub NodeTotals);
 
 impl Printable for NodeTotals {
-    ghost text = { totals_text };
+    ghost text = { λ totals. codes "ok " ++ storm_totals_text totals };
 
     fn print<A: Allocator>(&self, printed: &mut String<A>) -> Result<(), AllocError> {
         printed.push_str("ok ")?;

@@ -1,9 +1,29 @@
 //! The text of each other answer.
 
-use crate::prints::prints;
-use chi_flit::{Agent, CreditType, Entry, Refusal, Slot};
-use chi_node::Released;
+use chi_flit::{Agent, CreditType, Entry, Line, NoMemory, Refusal, Slot};
+use chi_node::{Released, System};
 use chi_replay::Reply;
+use chi_slice::Config;
+use std::alloc::Global;
+use std::process::Abort;
+
+/// The reply's line is this text, behind what was printed before.
+fn prints(rt: &impl Abort, alloc: Global, reply: Reply, text: &str) {
+    let printed = printed_behind(alloc, &reply, "audit\n").expect(rt, "memory for a text");
+    let line = printed.strip_suffix("\n").expect(rt, "a line end");
+    assert!(rt; line.strip_prefix("audit\n") == Some(text), "{text}");
+}
+
+/// What is printed on a new node of one agent and one line, where this was printed before.
+fn printed_behind(alloc: Global, reply: &Reply, before: &str) -> Result<String, NoMemory> {
+    let Some(config) = Config::new(1, 1, 1, 1, 1, 1) else {
+        return Err(NoMemory);
+    };
+    let system = System::new(alloc, &config)?;
+    let mut printed = String::from_str(alloc, before)?;
+    reply.print(&system, &mut printed)?;
+    Ok(printed)
+}
 
 #[test]
 fn prints_what_was_done(rt: HostRuntime) {
@@ -38,4 +58,13 @@ fn prints_why_it_was_refused(rt: HostRuntime) {
     prints(&rt, rt.alloc(), range, "refused 10 OutOfRange");
     let credit = Reply::Refused(Refusal::NoCredit);
     prints(&rt, rt.alloc(), credit, "refused 12 NoCredit");
+}
+
+#[test]
+fn prints_what_is_looked_at(rt: HostRuntime) {
+    let shown = "ok copies I named - unique no serving none waiting - memory 0 0 0 0 0 0 0 0";
+    prints(&rt, rt.alloc(), Reply::Line(Line(0)), shown);
+    prints(&rt, rt.alloc(), Reply::Flits(Agent(0), Line(0)), "ok none");
+    let beyond = Reply::Line(Line(1));
+    prints(&rt, rt.alloc(), beyond, "refused 10 OutOfRange");
 }

@@ -39,11 +39,11 @@ is_plan header options is =
     }
 
 -- a new node, as a drawing begins with it
-pub is_blank : (line : List ℕ) (config : Sizes) (seed : ℕ) (system : SystemState) (words : ChaCha) (text said : List ℕ)
-    → (z : TableId) × (system ≡ opening_system config z) → words ≡ seeded seed → text ≡ line ++ (10 ∷ []) → said ≡ []
-    → IsBlank line config seed (record { system = system; words = words; count = 0; text = text; said = said; done = false })
-is_blank line config seed system words text said opens starts heads none =
-    (opens.0, rw (opens.1, starts, heads, none) refl)
+pub is_blank : (line : List ℕ) (config : Sizes) (seed : ℕ) (system : SystemState) (words : ChaCha) (text : List ℕ)
+    → (z : TableId) × (system ≡ opening_system config z) → words ≡ seeded seed → text ≡ line ++ (10 ∷ [])
+    → IsBlank line config seed (record { system = system; words = words; count = 0; text = text; done = false })
+is_blank line config seed system words text opens starts heads =
+    (opens.0, rw (opens.1, starts, heads) refl)
 
 -- one command more of any kind, where the word says so
 pub adds_any : (plan : Plan) (old begun new : DrawingState) → nat_lt (word_now old.words % 100) plan.wild ≡ true → begun ≡ record old { words = past_word old.words }

@@ -19,8 +19,8 @@ use Rattle.chi_replay.specs.Turns.{machine_at_start}
 use Rattle.chi_replay.proofs.AnswerLines.{one_each}
 use Rattle.chi_stimulus.specs.declared.options.DrawOptions.{DrawOptions}
 use Rattle.chi_stimulus.specs.Stimulus.{HasCommands, IsNoRefusal, IsStimulus}
-use Rattle.chi_stimulus.specs.Drafts.{IsDrawnBy, is_plain}
-use Rattle.chi_stimulus.specs.SecondPass.{IsDrawn, is_told}
+use Rattle.chi_stimulus.specs.Drafts.{IsDrawnBy}
+use Rattle.chi_stimulus.specs.SecondPass.{IsDrawn, is_plain, is_told}
 
 abbrev wanted_of : List CheckLine → List (Option (List ℕ))
 wanted_of checks = map (λ check. check.wanted) checks

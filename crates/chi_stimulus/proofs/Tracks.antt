@@ -3,20 +3,21 @@ use Rattle.std.proofs.Common.{◌≡◌, ℕ, zero, suc, ◌+◌, ◌-◌, ◌�
 use Rattle.chi_node.specs.Words.{PortView}
 use Rattle.chi_replay.specs.Turns.{Machine, Turn, TurnAnswer}
 use Rattle.chi_replay.specs.Turns as turns
+use Rattle.chi_replay.specs.declared.replies.Reply.{Reply}
 use Rattle.chi_replay.specs.Texts as texts
 use Rattle.chi_replay.specs.Session.{ports_of}
 use Rattle.chi_stimulus.specs.Drafts.{Asks, Draft, Drawn, Ends, MayTrack, after_turn, and_then, draft_end, for_each, if_done, unless_done}
 use Rattle.chi_stimulus.specs.Goes.{DrawingState, Follows, Goes, as_drawn}
 
 -- a turn that was played, with what is made of it
-pub turn_follows : (t : Turn) (next : List ℕ → Machine → Drawn) (old : List PortView) (answers : List TurnAnswer) (said : List ℕ) (state : Machine) (new : List PortView)
-    → texts.Plays t old answers said state new → Follows (after_turn t next) old answers (next said state) new
-turn_follows (turns.Ends line m) next old [] said state new h =
-    (ap (λ (l : List ℕ). next l state) h.0 ∙ ap (λ (s : Machine). next line s) h.1, h.2)
-turn_follows (turns.Ends line m) next old (answer ∷ answers) said state new h = absurd h
-turn_follows (turns.Asks call more) next old [] said state new h = absurd h
-turn_follows (turns.Asks call more) next old (answer ∷ answers) said state new h =
-    (h.0, h.1, turn_follows (more answer) next h.0 answers said state new h.2)
+pub turn_follows : (t : Turn) (next : Reply → Machine → Drawn) (old : List PortView) (answers : List TurnAnswer) (reply : Reply) (state : Machine) (new : List PortView)
+    → texts.Plays t old answers reply state new → Follows (after_turn t next) old answers (next reply state) new
+turn_follows (turns.Ends line m) next old [] reply state new h =
+    (ap (λ (r : Reply). next r state) h.0 ∙ ap (λ (s : Machine). next line s) h.1, h.2)
+turn_follows (turns.Ends line m) next old (answer ∷ answers) reply state new h = absurd h
+turn_follows (turns.Asks call more) next old [] reply state new h = absurd h
+turn_follows (turns.Asks call more) next old (answer ∷ answers) reply state new h =
+    (h.0, h.1, turn_follows (more answer) next h.0 answers reply state new h.2)
 
 -- one draft after the other
 pub then_follows : (t : Draft) (next : Drawn → Draft) (old : List PortView) (a b : List TurnAnswer) (d end : Drawn) (mid new : List PortView)

@@ -1,5 +1,5 @@
 -- What is drawn, as a function of the arguments and of the tracker's answers (docs/FORMATS.md, "Drawn files").
-use Rattle.std.specs.Prelude.{◌≡◌, ℕ, zero, suc, ◌+◌, ◌%◌, ◌^◌, ◌==◌, nat_lt, List, [], ◌∷◌, ◌++◌, Option, Some, None, Bool, true, false, codes, replicate, if◌then◌else◌}
+use Rattle.std.specs.Prelude.{◌≡◌, ℕ, zero, suc, ◌+◌, ◌%◌, ◌^◌, nat_lt, is_none, List, [], ◌∷◌, ◌++◌, Option, Some, None, Bool, true, false, codes, replicate, if◌then◌else◌}
 use Rattle.chi_flit.specs.Numbers.{agent_at, credit_of}
 use Rattle.chi_flit.specs.declared.credit.Profile.{Profile}
 use Rattle.chi_flit.specs.declared.credit.Profile.TheVariants.{Two, Four}
@@ -10,6 +10,8 @@ use Rattle.chi_script.specs.Headers.{node_sizes}
 use Rattle.chi_node.specs.Words.{PortView}
 use Rattle.chi_replay.specs.Turns.{Machine, Turn, TurnAnswer, TurnCall, machine_at_start, turn}
 use Rattle.chi_replay.specs.Turns as turns
+use Rattle.chi_replay.specs.declared.replies.Reply.{Reply}
+use Rattle.chi_replay.specs.Replies.{refusal_in, reply_text}
 use Rattle.chi_replay.specs.Texts.{Permits, opening_ports}
 use Rattle.rand_chacha.specs.ChaCha.{ChaCha}
 use Rattle.chi_stimulus.specs.declared.options.DrawOptions.{DrawOptions}
@@ -20,11 +22,6 @@ use Rattle.chi_stimulus.specs.declared.words.Lot.{Lot}
 use Rattle.chi_stimulus.specs.Lots.{lot_now, past_lot, past_word, seeded, word_now}
 use Rattle.chi_stimulus.specs.Proposals.{any_command, command_by, operands_at, operands_of, rest_verb, usual_weights, verb_by}
 use Rattle.chi_script.specs.Spelling.{command_text}
-
--- an answer that begins with o, as no refusal does
-abbrev pub is_plain : List ℕ → Bool
-is_plain [] = false
-is_plain (byte ∷ bytes) = byte == 111
 
 -- the node, the place in the words, how many commands there are, the text, and whether one was kept since that was last
 -- cleared
@@ -40,9 +37,9 @@ pub data Draft : Type 0 where
   Ends : Drawn → Draft
   Asks : TurnCall → (TurnAnswer → Draft) → Draft
 
--- a turn, and what is made of its line and the state that it leaves
-abbrev pub after_turn : Turn → (List ℕ → Machine → Drawn) → Draft
-after_turn (turns.Ends said m) next = Ends (next said m)
+-- a turn, and what is made of its reply and the state that it leaves
+abbrev pub after_turn : Turn → (Reply → Machine → Drawn) → Draft
+after_turn (turns.Ends reply m) next = Ends (next reply m)
 after_turn (turns.Asks call more) next = Asks call (λ answer. after_turn (more answer) next)
 
 -- one draft after the other
@@ -63,21 +60,21 @@ abbrev pub if_done : (Drawn → Draft) → Drawn → Draft
 if_done next d = if d.done then next d else Ends d
 
 -- the command stands in the text with its answer
-abbrev pub noted : Command → Drawn → List ℕ → Machine → Drawn
-noted command d said m =
-    record { state = m; words = d.words; count = (d.count + 1) % 2 ^ 64; text = d.text ++ (command_text command ++ (codes " -> " ++ (said ++ (10 ∷ [])))); done = d.done }
+abbrev pub noted : Command → Drawn → Reply → Machine → Drawn
+noted command d reply m =
+    record { state = m; words = d.words; count = (d.count + 1) % 2 ^ 64; text = d.text ++ (command_text command ++ (codes " -> " ++ (reply_text m.home reply ++ (10 ∷ [])))); done = d.done }
 
 -- where it isn't refused, it does, and one was kept; else only the node may have gone on
-abbrev pub noted_if : Bool → Command → Drawn → List ℕ → Machine → Drawn
-noted_if true command d said m = record (noted command d said m) { done = true }
-noted_if false command d said m = record d { state = m }
+abbrev pub noted_if : Bool → Command → Drawn → Reply → Machine → Drawn
+noted_if true command d reply m = record (noted command d reply m) { done = true }
+noted_if false command d reply m = record d { state = m }
 
 -- a command that is kept whatever it is answered, and one that is kept unless it is refused
 abbrev pub keeping : Command → Drawn → Draft
 keeping command d = after_turn (turn d.state command) (noted command d)
 
 abbrev pub trying : Command → Drawn → Draft
-trying command d = after_turn (turn d.state command) (λ said m. noted_if (is_plain said) command d said m)
+trying command d = after_turn (turn d.state command) (λ reply m. noted_if (is_none (refusal_in reply)) command d reply m)
 
 -- the command of a verb, if there is one
 abbrev pub trying_by : Plan → Lot → Option Verb → Drawn → Draft

@@ -5,7 +5,9 @@ use Rattle.chi_node.specs.Words.{PortView, TableId}
 use Rattle.chi_node.specs.System.{SystemState, opening_system}
 use Rattle.chi_slice.specs.Words.{Sizes}
 use Rattle.chi_script.specs.declared.commands.Command.{Command}
-use Rattle.chi_replay.specs.Session.{SaysTurn, machine_of, ports_of}
+use Rattle.chi_replay.specs.declared.replies.Reply.{Reply}
+use Rattle.chi_replay.specs.Replies.{reply_text}
+use Rattle.chi_replay.specs.Session.{PlaysTurn, machine_of, ports_of}
 use Rattle.chi_replay.specs.Texts.{Permits}
 use Rattle.chi_replay.specs.Turns.{TurnAnswer}
 use Rattle.rand_chacha.specs.ChaCha.{ChaCha}
@@ -14,13 +16,12 @@ use Rattle.chi_stimulus.specs.Drafts.{Asks, Draft, Drawn, Ends}
 use Rattle.chi_stimulus.specs.Lots.{seeded}
 use Rattle.chi_script.specs.Spelling.{command_text}
 
--- a node, the place in the words, the commands so far, their text, what the last one was answered, and whether one was kept
+-- a node, the place in the words, the commands so far, their text, and whether one was kept
 pub record DrawingState : Type 0 where
   pub system : SystemState
   pub words : ChaCha
   pub count : ℕ
   pub text : List ℕ
-  pub said : List ℕ
   pub done : Bool
 
 abbrev pub as_drawn : DrawingState → Drawn
@@ -37,19 +38,20 @@ Follows (Asks call next) old (answer ∷ answers) end new = (mid : List PortView
 abbrev pub Goes : (Drawn → Draft) → DrawingState → DrawingState → Type 0
 Goes draft old new = (tracked : List TurnAnswer) × Follows (draft (as_drawn old)) (ports_of old.system) tracked (as_drawn new) (ports_of new.system)
 
--- a command's turn was played, and only its answer is known
-pub record IsTurnPlayed (command : Command) (old new : DrawingState) : Type 0 where
-  pub says : SaysTurn command old.system new.system [] new.said
-  pub same : new ≡ record old { system = new.system; said = new.said }
+-- a command's turn was played, and gave this reply
+pub record IsTurnPlayed (command : Command) (reply : Reply) (old new : DrawingState) : Type 0 where
+  pub plays : PlaysTurn command old.system new.system reply
+  pub same : new ≡ record old { system = new.system }
 
--- the command stands in the text with what was said
-abbrev pub with_note : Command → DrawingState → DrawingState
-with_note command d = record d { count = (d.count + 1) % 2 ^ 64; text = d.text ++ (command_text command ++ (codes " -> " ++ d.said)) }
+-- the command stands in the text with its reply
+abbrev pub with_note : Command → Reply → DrawingState → DrawingState
+with_note command reply d =
+    record d { count = (d.count + 1) % 2 ^ 64; text = d.text ++ (command_text command ++ (codes " -> " ++ (reply_text d.system.home reply ++ (10 ∷ [])))) }
 
 -- a new node, and a header
 abbrev pub IsBlank : List ℕ → Sizes → ℕ → DrawingState → Type 0
 IsBlank line config seed d = (z : TableId)
-    × (d ≡ record { system = opening_system config z; words = seeded seed; count = 0; text = line ++ (10 ∷ []); said = []; done = false })
+    × (d ≡ record { system = opening_system config z; words = seeded seed; count = 0; text = line ++ (10 ∷ []); done = false })
 
 -- the ranges of operands aren't empty, and there is room behind them
 pub record IsPlan (plan : Plan) : Type 0 where

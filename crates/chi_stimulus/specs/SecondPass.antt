@@ -1,5 +1,5 @@
 -- Of the code alone, no public promise cites it: what the second pass finds (docs/FORMATS.md, "Drawn files").
-use Rattle.std.specs.Prelude.{◌≡◌, ℕ, ◌||◌, Bool, true, false, List, Option, Some, None}
+use Rattle.std.specs.Prelude.{◌≡◌, ℕ, ◌==◌, ◌||◌, Bool, true, false, List, [], ◌∷◌, Option, Some, None}
 use Rattle.std.specs.Io.KnownBytes.{Appends, Keeps}
 use Rattle.chi_script.specs.Devices.{AppendsFront}
 use Rattle.chi_script.specs.declared.faults.Fault.{Fault}
@@ -7,8 +7,13 @@ use Rattle.chi_script.specs.declared.faults.Fault.TheVariants as faults
 use Rattle.chi_script.specs.declared.headers.Header.{Header}
 use Rattle.chi_script.specs.Headers.{line_header}
 use Rattle.chi_stimulus.specs.declared.options.DrawOptions.{DrawOptions}
-use Rattle.chi_stimulus.specs.Drafts.{IsDrawnBy, is_plain}
+use Rattle.chi_stimulus.specs.Drafts.{IsDrawnBy}
 use Rattle.chi_stimulus.specs.Stimulus.{IsDrawnTooLarge, IsStimulus}
+
+-- an answer that begins with o, as no refusal does
+abbrev pub is_plain : List ℕ → Bool
+is_plain [] = false
+is_plain (byte ∷ bytes) = byte == 111
 
 -- an answer is wanted, and it begins as no refusal does, unless the command may be any
 abbrev pub is_told : Bool → Option (List ℕ) → Bool

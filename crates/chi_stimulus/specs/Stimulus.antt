@@ -2,8 +2,7 @@
 use Rattle.std.specs.Prelude.{◌≡◌, ◌≢◌, ℕ, ◌/◌, ◌<◌, ◌≤◌, ◌⊎◌, All, Bool, true, false, List, Option, Some, None, length, map}
 use Rattle.std.specs.Io.KnownBytes.{Appends, Keeps}
 use Rattle.chi_flit.specs.declared.refusal.Refusal.{Refusal}
-use Rattle.chi_replay.specs.Replies.{reply_text}
-use Rattle.chi_replay.specs.declared.replies.Reply.TheVariants.{Refused}
+use Rattle.chi_replay.specs.Replies.{refused_text}
 use Rattle.chi_script.specs.declared.faults.Fault.{Fault}
 use Rattle.chi_script.specs.declared.faults.Fault.TheVariants as faults
 use Rattle.chi_script.specs.declared.headers.Header.{Header}
@@ -17,7 +16,7 @@ use Rattle.chi_stimulus.specs.Drafts.{IsDrawnBy}
 
 -- an answer that tells no refusal
 abbrev pub IsNoRefusal : List ℕ → Type 0
-IsNoRefusal answer = (refusal : Refusal) → answer ≢ reply_text (Refused refusal)
+IsNoRefusal answer = (refusal : Refusal) → answer ≢ refused_text refusal
 
 -- as many commands as were asked for; behind them there may be those that bring the node to rest, if they are asked for
 pub record HasCommands (options : DrawOptions) (count : ℕ) : Type 0 where

@@ -1,19 +1,19 @@
 //! A node, and the text of the commands that were drawn for it so far.
 
-ghost use Rattle.std.specs.Prelude.{◌≡◌, [], ◌∷◌, ◌++◌, IfOk, OnOk, string_bytes};
-ghost use Rattle.chi_replay.specs.Session.{SaysTurn};
-ghost use Rattle.chi_stimulus.specs.Drafts.{adding, adding_any, adding_enabled, for_each, is_plain, keeping, proposing, seeking, trying};
+ghost use Rattle.std.specs.Prelude.{◌≡◌, [], ◌∷◌, ◌++◌, IfOk, OnOk, is_none, string_bytes};
+ghost use Rattle.chi_replay.specs.Replies.{refusal_in};
+ghost use Rattle.chi_replay.specs.Session.{PlaysTurn};
+ghost use Rattle.chi_stimulus.specs.Drafts.{adding, adding_any, adding_enabled, for_each, keeping, proposing, seeking, trying};
 ghost use Rattle.chi_stimulus.specs.Goes.{Goes, IsBlank, IsPlan, with_note};
 ghost use Rattle.chi_stimulus.specs.Lots.{lot_now, past_lot, past_word, word_now};
 
 use crate::operands::Operands;
 use crate::plan::Plan;
 use crate::proposals::{any_command, command_by};
-use crate::second_pass::is_plain;
 use crate::words::{Lot, Words};
 use chi_flit::{Agent, NoMemory};
 use chi_node::System;
-use chi_replay::answer;
+use chi_replay::{Reply, answer};
 use chi_script::Command;
 use chi_slice::Config;
 use std::alloc::Allocator;
@@ -28,8 +28,6 @@ pub(crate) struct Drawing<A: Allocator> {
     count: u64,
     /// The header, and each command with its answer.
     text: String<A>,
-    /// The answer of the command that was tried last.
-    said: String<A>,
     /// Whether a command was kept since this was last cleared.
     done: bool,
 }
@@ -46,23 +44,15 @@ impl<A: Allocator> Model for Drawing<A> {
           words = d.words;
           count = d.count;
           text = string_bytes d.text;
-          said = string_bytes d.said;
           done = d.done;
         } };
 }
 
-/// Does a command, and makes its answer all that is said.
-fn say<A: Allocator>(
-    system: &mut System<A>,
-    command: &Command,
-    said: &mut String<A>,
-) -> Result<(), NoMemory>
-    ensures { OnOk result
-        (SaysTurn command.now system.old system.new [] (string_bytes said.new)) }
+/// Whether a command isn't refused.
+fn is_enabled(reply: &Reply) -> bool
+    ensures { result ≡ is_none (refusal_in reply.now) }
 {
-    said.clear();
-    answer(system, *command, said)?;
-    Ok(())
+    reply.refusal().is_none()
 }
 
 /// A header and its line end.
@@ -91,7 +81,6 @@ impl<A: Allocator + Copy> Drawing<A> {
             words: Words::new(seed),
             count: 0,
             text,
-            said: String::new(alloc),
             done: false,
         })
     }
@@ -142,31 +131,20 @@ impl<A: Allocator> Drawing<A> {
         self.words.lot()
     }
 
-    /// Does the command, and keeps its answer.
-    fn play(&mut self, command: &Command) -> Result<(), NoMemory>
-        ensures says { OnOk result
-            (SaysTurn command.now self.old.system self.new.system [] self.new.said) }
-        ensures same { OnOk result (self.new ≡ record self.old {
-          system = self.new.system;
-          said = self.new.said;
-        }) }
+    /// Does the command, and tells its reply.
+    fn play(&mut self, command: &Command) -> Reply
+        ensures plays { PlaysTurn command.now self.old.system self.new.system result }
+        ensures same { self.new ≡ record self.old { system = self.new.system } }
     {
-        say(&mut self.system, command, &mut self.said)
+        answer(&mut self.system, *command)
     }
 
-    /// Whether what was played last isn't refused.
-    fn is_enabled(&self) -> bool
-        ensures { result ≡ is_plain self.now.said }
+    /// Puts the command behind the text, with the reply that it was given.
+    fn note(&mut self, command: &Command, reply: &Reply) -> Result<(), NoMemory>
+        ensures { OnOk result (self.new ≡ with_note command.now reply.now self.old) }
     {
-        is_plain(self.said.as_bytes())
-    }
-
-    /// Puts the command behind the text, with the answer that it was given.
-    fn note(&mut self, command: &Command) -> Result<(), NoMemory>
-        ensures { OnOk result (self.new ≡ with_note command.now self.old) }
-    {
-        let said = self.said.as_str();
-        write!(self.text, "{command} -> {said}")?;
+        write!(self.text, "{command} -> ")?;
+        reply.print(&self.system, &mut self.text)?;
         self.count = self.count.wrapping_add(1);
         Ok(())
     }
@@ -175,19 +153,19 @@ impl<A: Allocator> Drawing<A> {
     pub(crate) fn keep(&mut self, command: &Command) -> Result<(), NoMemory>
         ensures { OnOk result (Goes (keeping command.now) self.old self.new) }
     {
-        self.play(command)?;
-        self.note(command)
+        let reply = self.play(command);
+        self.note(command, &reply)
     }
 
     /// The same where it isn't refused, and then one was kept; else nothing.
     pub(crate) fn tries(&mut self, command: &Command) -> Result<(), NoMemory>
         ensures { OnOk result (Goes (trying command.now) self.old self.new) }
     {
-        self.play(command)?;
-        if !self.is_enabled() {
+        let reply = self.play(command);
+        if !is_enabled(&reply) {
             return Ok(());
         }
-        self.note(command)?;
+        self.note(command, &reply)?;
         self.set_done(true);
         Ok(())
     }

@@ -5,8 +5,7 @@ ghost use Rattle.chi_script.specs.Checks.{line_of_check};
 ghost use Rattle.chi_script.specs.CheckFiles.{check_file_of};
 ghost use Rattle.chi_replay.specs.Checks.{IsCheckReport};
 ghost use Rattle.chi_stimulus.specs.Stimulus.{HasCommands};
-ghost use Rattle.chi_stimulus.specs.Drafts.{is_plain};
-ghost use Rattle.chi_stimulus.specs.SecondPass.{IsDrawn, is_told};
+ghost use Rattle.chi_stimulus.specs.SecondPass.{IsDrawn, is_plain, is_told};
 
 use crate::options::DrawOptions;
 use chi_flit::NoMemory;
@@ -28,7 +27,7 @@ fn holds<A: Allocator + Copy>(alloc: A, text: &[u8]) -> Result<bool, NoMemory>
 }
 
 /// Whether an answer begins as no refusal does.
-pub(crate) fn is_plain(answer: &[u8]) -> bool
+fn is_plain(answer: &[u8]) -> bool
     ensures { result ≡ is_plain answer.now }
 {
     match answer {

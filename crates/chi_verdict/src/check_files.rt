@@ -5,9 +5,10 @@ use crate::ballast::{Ballast, write_beginning, write_end};
 use crate::names::{LineName, NodeName, SeenName, kept, requester_of};
 use crate::readings::is_access;
 use chi_explain::{Observed, WitnessItem};
-use chi_flit::{Agent, Data, NO_DATA, NoMemory, Profile, Step};
+use chi_flit::{Action, Agent, Data, Line, NO_DATA, NoMemory, Profile, Step};
 use chi_monitor::{Known, Witness};
 use chi_resolution::{CacheLine, Resolved};
+use chi_script::{Command, RequesterAction};
 use chi_trace::{NodeId, Seen};
 use std::alloc::Allocator;
 use std::fmt::Write;
@@ -119,7 +120,8 @@ fn write_items<A: Allocator>(
         match *item {
             WitnessItem::Act(agent, step) => write_act(text, ballast, agent, step)?,
             WitnessItem::Load(agent, word, value) => {
-                kept(writeln!(text, "load {agent} 0 {word} -> ok value {value}"))?;
+                let command = command_of(agent, Step::Load(word));
+                kept(writeln!(text, "{command} -> ok value {value}"))?;
             }
             WitnessItem::Store(agent, word, value) => {
                 write_step(text, ballast, agent, Step::Store(word, value))?;
@@ -171,6 +173,16 @@ fn write_after<A: Allocator>(
     }
 }
 
+/// The command of a step at line 0.
+fn command_of(agent: Agent, step: Step) -> Command {
+    let line = Line(0);
+    match step {
+        Step::Admit => Command::Arrive { agent, line },
+        Step::Retry => Command::Arrive { agent, line },
+        step => Command::Act(RequesterAction::new(Action { agent, line, step })),
+    }
+}
+
 /// The command of a step, with its answer where that is known.
 fn write_step<A: Allocator>(
     text: &mut String<A>,
@@ -178,36 +190,15 @@ fn write_step<A: Allocator>(
     agent: Agent,
     step: Step,
 ) -> Result<(), NoMemory> {
+    let command = command_of(agent, step);
     kept(match step {
-        Step::Load(word) => writeln!(text, "load {agent} 0 {word}"),
-        Step::Store(word, value) => writeln!(text, "store {agent} 0 {word} {value} -> ok"),
-        Step::Issue(kind, slot) => writeln!(text, "issue {agent} 0 {kind} {slot} -> ok"),
-        Step::Admit => writeln!(text, "arrive {agent} 0"),
+        Step::Load(_) | Step::Admit | Step::Start | Step::RecvAck | Step::RecvWrData => {
+            writeln!(text, "{command}")
+        }
         Step::Retry => {
             let ty = ballast.type_of(agent);
-            writeln!(text, "arrive {agent} 0 -> ok retry {ty}")
+            writeln!(text, "{command} -> ok retry {ty}")
         }
-        Step::Start => writeln!(text, "start {agent} 0"),
-        Step::RecvAck => writeln!(text, "ack {agent} 0"),
-        Step::RecvWrData => writeln!(text, "wrdata {agent} 0"),
-        _ => {
-            let command = plain_command(step);
-            writeln!(text, "{command} {agent} 0 -> ok")
-        }
+        _ => writeln!(text, "{command} -> ok"),
     })
-}
-
-/// The command of a step that takes an agent and a line alone, and answers no more than `ok`.
-fn plain_command(step: Step) -> &'static str {
-    match step {
-        Step::Drop => "drop",
-        Step::RecvRetry => "retryack",
-        Step::Resend => "resend",
-        Step::Cancel => "cancel",
-        Step::RecvSnp => "snp",
-        Step::RecvSnpResp => "snpresp",
-        Step::RecvData => "data",
-        Step::RecvComp => "comp",
-        _ => "dbid",
-    }
 }

@@ -1,4 +1,4 @@
-use Rattle.std.proofs.Common.{◌≡◌, ◌/◌, ◌%◌, ◌++◌, string_bytes, OnOk, arith, sym, ap, ◌∙◌, append_assoc, rules}
+use Rattle.std.proofs.Common.{◌≡◌, ◌/◌, ◌%◌, ◌++◌, string_bytes, OnOk, arith, rules}
 use Rattle.std.specs.Fmt.{decimal}
 use Rattle.chi_replay.proofs.Digits.{behind, on_ok, two_digits}
 use Rattle.chi_replay.proofs.prints.print_pair.Goals as goal
