@@ -1,5 +1,5 @@
 -- What was added of the reports so far, and of one file more.
-use Rattle.std.proofs.Common.{◌≡◌, ℕ, zero, suc, ◌+◌, All, Bool, true, false, List, [], ◌∷◌, ◌++◌, Option, Some, None, Ok, Err, Result, IfOk, IfSome, OnOk, ◌<◌, ◌≤◌, refl, sym, ap, ◌∙◌, subst, append-nil, arith, drop, get_or, length, map, replicate, slice_index, take, take_all}
+use Rattle.std.proofs.Common.{◌≡◌, ℕ, zero, suc, ◌+◌, All, Bool, true, false, List, [], ◌∷◌, ◌++◌, Option, Some, None, Ok, Err, Result, IfNone, IfOk, IfSome, OnOk, ◌<◌, ◌≤◌, refl, sym, ap, ◌∙◌, subst, append-nil, arith, get_or, length, map, replicate, slice_index, take, take_all}
 use Rattle.std.specs.Prelude.{◌||◌}
 use Rattle.std.specs.List.{flat_map}
 use Rattle.std.proofs.lemmas.List.{length-replicate, map-append, take_more}
@@ -12,7 +12,7 @@ use Rattle.chi_coverage.specs.declared.forms.CoverShape.{CoverShape}
 use Rattle.chi_coverage.specs.Counts.{count_at}
 use Rattle.chi_coverage.specs.Coverage.{cover_text, reached_of}
 use Rattle.chi_coverage.specs.Lists.{all_cells}
-use Rattle.chi_coverage.specs.Merging.{FileMerge, IsFileMerge, IsMergeReport, IsReport, MayMerge, MergeCame, MergeGoesOn, MergeState, added, any_unadded, count_come, count_over, counts_with, is_unadded, merge_with, no_report, sums, unadded_line, unread}
+use Rattle.chi_coverage.specs.Merging.{FileMerge, IsFileMerge, IsMergeReport, IsNoReport, IsReport, MayMerge, MergeCame, MergeGoesOn, MergeState, added, any_unadded, count_come, count_over, counts_with, is_unadded, no_report, sums, unadded_line, unread}
 use Rattle.chi_coverage.specs.Places.{cell_place, place_count}
 use Rattle.chi_coverage.proofs.Covering.{reached_same, text_same}
 
@@ -184,3 +184,8 @@ may_unread (Some bytes) e = absurd (cc (e))
 pub may_add : {X : Type 0} (read : X → List ℕ) (bytes : List ℕ) (found : Option X) (it : X) → found ≡ Some it → IfSome found (λ x. IsReport bytes (read x)) → MayMerge (Some bytes) (added (read it))
 may_add {X = X} read bytes None it e report = absurd (cc (e))
 may_add {X = X} read bytes (Some x) it e report = let same : x ≡ it = cc (e) in subst (λ (y : X). IsReport bytes (read y)) same report
+
+-- what is no report
+pub may_leave_out : {X : Type 0} (bytes : List ℕ) (found : Option X) → found ≡ None → IfNone found (IsNoReport bytes) → MayMerge (Some bytes) no_report
+may_leave_out bytes None e none = none
+may_leave_out bytes (Some x) e none = absurd (cc (e))

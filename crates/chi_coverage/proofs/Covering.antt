@@ -1,5 +1,5 @@
 -- What was counted and told of the files so far, and of one file more.
-use Rattle.std.proofs.Common.{◌≡◌, ℕ, ◌+◌, All, Bool, cond, List, [], ◌∷◌, ◌++◌, Option, Some, None, Ok, Err, Result, IfOk, OnOk, ◌≢◌, ◌<◌, ◌≤◌, refl, sym, ap, ◌∙◌, subst, append-nil, get_or, length, map, replicate, take, take_all}
+use Rattle.std.proofs.Common.{◌≡◌, ℕ, ◌+◌, All, cond, List, [], ◌∷◌, ◌++◌, Option, Some, None, Ok, Err, Result, IfOk, OnOk, ◌≢◌, ◌<◌, ◌≤◌, refl, sym, ap, ◌∙◌, subst, append-nil, get_or, length, map, replicate, take, take_all}
 use Rattle.std.specs.List.{filter, flat_map}
 use Rattle.std.specs.Prelude.{◌&&◌, nat_lt}
 use Rattle.std.proofs.lemmas.List.{length-replicate, map-append, take_more}
