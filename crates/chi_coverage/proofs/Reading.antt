@@ -9,7 +9,7 @@ use Rattle.std.proofs.lemmas.Bool.Decides.{eqb_tells}
 use Rattle.std.proofs.lemmas.Fmt.{decimal_by_steps, decimal_digit}
 use Rattle.std.proofs.lemmas.Grind.{get_or-set_at}
 use Rattle.std.proofs.lemmas.List.{append-nil, append_assoc, drop_at, get_or-set_other, length-append, length-drop, length-replicate, length-set, take_at}
-use Rattle.std.proofs.lemmas.List.Elements.{All-cons, All-get_or, All-head, All-nil, All-tail}
+use Rattle.std.proofs.lemmas.List.Elements.{All-cons, All-get_or, All-nil}
 use Rattle.chi_script.specs.Words.{number_of}
 use Rattle.chi_script.proofs.NumberLemmas.{number_again}
 use Rattle.chi_coverage.specs.declared.cells.Cell.{Cell}
@@ -24,7 +24,7 @@ use Rattle.chi_coverage.specs.Lists.{all_cells}
 use Rattle.chi_coverage.specs.Merging.{IsNoReport, report_text, whole}
 use Rattle.chi_coverage.specs.Places.{cell_place, place_count}
 use Rattle.chi_coverage.specs.Reading.{IsNoReportIn, behind_digits, counts_with_line, digits_in, line_len, lines_in, number_in, read_from, rest_behind}
-use Rattle.chi_coverage.proofs.Covering.{text_on}
+use Rattle.chi_coverage.proofs.Covering.{text_alike, text_on}
 use Rattle.chi_coverage.proofs.Placing.{cell_low, cells_length}
 
 one_further : (b : Bool) (n m : ℕ) → n ≤ m → cond (not b) (1 + n) 0 ≤ suc m
@@ -210,36 +210,6 @@ all_read form given small (cell ∷ cells) ys from counts e long =
     let on = reads_on (is_unreachable cell) form given cell (lines ++ ys) from counts refl (small cell) (e ∙ append_assoc line lines ys) long in
     All-cons (IsRead given (read_from form (cell ∷ cells) from counts)) cell cells (kept form given small cells ys _ _ on.rest on.long cell on.here) (all_read form given small cells ys _ _ on.rest on.long)
 
--- a text goes by the counts of those cells alone
-line_alike : (b : Bool) (line : List ℕ) (of : ℕ → List ℕ) (m n : ℕ) → (b ≡ false → m ≡ n) → cond b line (of m) ≡ cond b line (of n)
-line_alike true line of m n same = refl
-line_alike false line of m n same = ap of (same refl)
-
-test_alike : (b : Bool) (m n : ℕ) → (b ≡ false → m ≡ n) → (not b && nat_lt 0 m) ≡ (not b && nat_lt 0 n)
-test_alike true m n same = refl
-test_alike false m n same = ap (nat_lt 0) (same refl)
-
-abbrev pub AreAlike : (f g : Cell → ℕ) → Cell → Type 0
-AreAlike f g cell = is_unreachable cell ≡ false → f cell ≡ g cell
-
-lines_alike : (form : CoverForm) (f g : Cell → ℕ) (cells : List Cell) → All (AreAlike f g) cells → cover_lines (whole form) f cells ≡ cover_lines (whole form) g cells
-lines_alike form f g [] all = refl
-lines_alike form f g (cell ∷ cells) all =
-    ap (λ (l : List ℕ). l ++ cover_lines (whole form) f cells)
-    (line_alike (is_unreachable cell) (cell_line form cell (unreachable_text form)) (λ n. cell_line form cell (decimal n)) (f cell) (g cell) (All-head (AreAlike f g) cell cells all))
-    ∙ ap (λ (l : List ℕ). line_of_cell (whole form) (g cell) cell ++ l) (lines_alike form f g cells (All-tail (AreAlike f g) cell cells all))
-
-reached_alike : (f g : Cell → ℕ) (cells : List Cell) → All (AreAlike f g) cells → filter (is_reached f) cells ≡ filter (is_reached g) cells
-reached_alike f g [] all = refl
-reached_alike f g (cell ∷ cells) all =
-    ap (λ (b : Bool). cond b (cell ∷ filter (is_reached f) cells) (filter (is_reached f) cells)) (test_alike (is_unreachable cell) (f cell) (g cell) (All-head (AreAlike f g) cell cells all))
-    ∙ ap (λ (l : List Cell). cond (is_reached g cell) (cell ∷ l) l) (reached_alike f g cells (All-tail (AreAlike f g) cell cells all))
-
-text_alike : (form : CoverForm) (f g : Cell → ℕ) (cells : List Cell) → All (AreAlike f g) cells → text_on (whole form) f cells ≡ text_on (whole form) g cells
-text_alike form f g cells all =
-    ap (λ (l : List ℕ). framed form l (length (filter (is_reached f) cells)) (length (filter is_reachable cells))) (lines_alike form f g cells all)
-    ∙ ap (λ (l : List Cell). framed form (cover_lines (whole form) g cells) (length l) (length (filter is_reachable cells))) (reached_alike f g cells all)
-
 -- where the lines begin; in JSON the first byte is another
 record Begins (form : CoverForm) (cells : List Cell) (bytes lines counts : List ℕ) : Type 0 where
   ys : List ℕ
@@ -311,7 +281,7 @@ read_again form given counts bytes cell cells small few long e =
     let lines = cover_lines (whole form) (count_at given) all in
     let start = begins form cell cells (count_at given) bytes counts _ _ (omega (arith, filter_within (is_reached (count_at given)) all, few)) (omega (arith, filter_within is_reachable all, few)) e in
     ap (λ (l : List ℕ). text_on (whole form) (count_at l) all) start.same
-    ∙ (text_alike form (count_at (read_from form all (lines ++ start.ys) counts)) (count_at given) all (all_read form given small all start.ys (lines ++ start.ys) counts refl long) ∙ sym e)
+    ∙ (text_alike (whole form) (count_at (read_from form all (lines ++ start.ys) counts)) (count_at given) all (all_read form given small all start.ys (lines ++ start.ys) counts refl long) ∙ sym e)
 
 cells_begin : all_cells ≡ cells.Done verbs.Load ∷ drop 1 all_cells
 unfolding all_cells

@@ -22,7 +22,8 @@ number_in bytes = unwrap_or (number_of (take (digits_in bytes) bytes)) 0
 abbrev pub behind_digits : List ℕ → List ℕ
 behind_digits bytes = drop (digits_in bytes) bytes
 
--- where the lines of the cells begin; in JSON with a bracket in the place of the first comma
+-- where the lines of the cells begin: behind the names of their values; in JSON, where both numbers stand before them, behind
+-- `{"covered":`, `,"of":` and `,"cells":`, so with a bracket in the place of the first comma
 abbrev pub lines_in : CoverForm → List ℕ → List ℕ
 lines_in Lines bytes = bytes
 lines_in Json bytes = drop 9 (behind_digits (drop 6 (behind_digits (drop 11 bytes))))

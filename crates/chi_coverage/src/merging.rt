@@ -266,7 +266,8 @@ fn read_lines<A: Allocator + Copy>(
     Ok(())
 }
 
-/// Where the lines of the cells begin; in JSON with the bracket before them.
+/// Where the lines of the cells begin, behind the names of their values; in JSON behind the names of both numbers, and with
+/// the bracket before the lines.
 fn lines_in(bytes: &[u8], form: CoverForm) -> &[u8]
     ensures { result.now ≡ lines_in form bytes.now }
 {
