@@ -1,5 +1,5 @@
 -- What was added of the reports so far, and of one file more.
-use Rattle.std.proofs.Common.{◌≡◌, ℕ, zero, suc, ◌+◌, All, Bool, true, false, List, [], ◌∷◌, ◌++◌, Option, Some, None, Ok, Err, Result, IfOk, IfSome, OnOk, ◌<◌, ◌≤◌, refl, sym, ap, ◌∙◌, subst, append-nil, arith, drop, get_or, length, map, replicate, slice_index, take, take_all}
+use Rattle.std.proofs.Common.{◌≡◌, ℕ, zero, suc, ◌+◌, All, Bool, true, false, List, [], ◌∷◌, ◌++◌, Option, Some, None, Ok, Err, Result, IfNone, IfOk, IfSome, OnOk, ◌<◌, ◌≤◌, refl, sym, ap, ◌∙◌, subst, append-nil, arith, get_or, length, map, replicate, slice_index, take, take_all}
 use Rattle.std.specs.Prelude.{◌||◌}
 use Rattle.std.specs.List.{flat_map}
 use Rattle.std.proofs.lemmas.List.{length-replicate, map-append, take_more}
@@ -12,9 +12,9 @@ use Rattle.chi_coverage.specs.declared.forms.CoverShape.{CoverShape}
 use Rattle.chi_coverage.specs.Counts.{count_at}
 use Rattle.chi_coverage.specs.Coverage.{cover_text, reached_of}
 use Rattle.chi_coverage.specs.Lists.{all_cells}
-use Rattle.chi_coverage.specs.Merging.{FileMerge, IsFileMerge, IsMergeReport, IsReport, MayMerge, MergeCame, MergeGoesOn, MergeState, added, any_unadded, count_come, count_over, counts_with, is_unadded, merge_with, no_report, sums, unadded_line, unread}
+use Rattle.chi_coverage.specs.Merging.{FileMerge, IsFileMerge, IsMergeReport, IsNoReport, IsReport, MayMerge, MergeCame, MergeGoesOn, MergeState, added, any_unadded, count_come, count_over, counts_with, is_unadded, no_report, sums, unadded_line, unread}
 use Rattle.chi_coverage.specs.Places.{cell_place, place_count}
-use Rattle.chi_coverage.proofs.Covering.{reached_same, text_same}
+use Rattle.chi_coverage.proofs.Covering.{all_alike, reached_alike, text_alike}
 
 abbrev pub merge_state : List ℕ → List ℕ → Bool → MergeState
 merge_state counts faults faulty = record { counts = counts; faults = faults; faulty = faulty }
@@ -130,15 +130,16 @@ merges_length files state stands = stands.long
 
 merged_all : (shape : CoverShape) (files : List GivenFile) (state : MergeState) (text faults : List ℕ) (faulty : Bool) (reached : ℕ) → MergesAt files state → text ≡ cover_text shape (count_at state.counts)
     → faults ≡ state.faults → faulty ≡ state.faulty → reached ≡ reached_of (count_at state.counts) → IsMergeReport shape files text faults faulty reached
-merged_all shape files state text faults faulty reached stands printed lines some count = record {
-  told = stands.told;
-  in_turn = stands.in_turn;
-  each = stands.each;
-  printed = printed ∙ text_same shape (count_at state.counts) (count_over stands.told) stands.counted all_cells;
-  count = count ∙ ap (λ (l : List Cell). length l) (reached_same (count_at state.counts) (count_over stands.told) stands.counted all_cells);
-  lines = lines ∙ stands.lines;
-  some = some ∙ stands.some;
-}
+merged_all shape files state text faults faulty reached stands printed lines some count =
+    let alike = all_alike (count_at state.counts) (count_over stands.told) stands.counted all_cells in record {
+      told = stands.told;
+      in_turn = stands.in_turn;
+      each = stands.each;
+      printed = printed ∙ text_alike shape (count_at state.counts) (count_over stands.told) all_cells alike;
+      count = count ∙ ap (λ (l : List Cell). length l) (reached_alike (count_at state.counts) (count_over stands.told) all_cells alike);
+      lines = lines ∙ stands.lines;
+      some = some ∙ stands.some;
+    }
 
 -- at the end the report is on all files
 pub merged_on : {T E : Type 0} (result : Result T E) (text_in faults_in : T → List ℕ) (faulty_in : T → Bool) (reached_in : T → ℕ) (shape : CoverShape) (files : List SuiteFile) (i : ℕ) (state : MergeState)
@@ -184,3 +185,8 @@ may_unread (Some bytes) e = absurd (cc (e))
 pub may_add : {X : Type 0} (read : X → List ℕ) (bytes : List ℕ) (found : Option X) (it : X) → found ≡ Some it → IfSome found (λ x. IsReport bytes (read x)) → MayMerge (Some bytes) (added (read it))
 may_add {X = X} read bytes None it e report = absurd (cc (e))
 may_add {X = X} read bytes (Some x) it e report = let same : x ≡ it = cc (e) in subst (λ (y : X). IsReport bytes (read y)) same report
+
+-- what is no report
+pub may_leave_out : {X : Type 0} (bytes : List ℕ) (found : Option X) → found ≡ None → IfNone found (IsNoReport bytes) → MayMerge (Some bytes) no_report
+may_leave_out bytes None e none = none
+may_leave_out bytes (Some x) e none = absurd (cc (e))

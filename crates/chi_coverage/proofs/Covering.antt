@@ -1,10 +1,11 @@
 -- What was counted and told of the files so far, and of one file more.
-use Rattle.std.proofs.Common.{◌≡◌, ℕ, ◌+◌, All, Bool, cond, List, [], ◌∷◌, ◌++◌, Option, Some, None, Ok, Err, Result, IfOk, OnOk, ◌≢◌, ◌<◌, ◌≤◌, refl, sym, ap, ◌∙◌, subst, append-nil, get_or, length, map, replicate, take, take_all}
+use Rattle.std.proofs.Common.{◌≡◌, ℕ, ◌+◌, All, Bool, true, false, cond, List, [], ◌∷◌, ◌++◌, Option, Some, None, Ok, Err, Result, IfOk, OnOk, ◌≢◌, ◌<◌, ◌≤◌, refl, sym, ap, ◌∙◌, subst, append-nil, get_or, length, map, replicate, take, take_all}
 use Rattle.std.specs.List.{filter, flat_map}
-use Rattle.std.specs.Prelude.{◌&&◌, nat_lt}
+use Rattle.std.specs.Prelude.{◌&&◌, nat_lt, not, if◌then◌else◌}
+use Rattle.std.specs.Fmt.{decimal}
 use Rattle.std.proofs.lemmas.List.{length-replicate, map-append, take_more}
 use Rattle.std.proofs.lemmas.List.Concat.{flat_map-append}
-use Rattle.std.proofs.lemmas.List.Elements.{All-nil, All-push}
+use Rattle.std.proofs.lemmas.List.Elements.{All-cons, All-head, All-nil, All-push, All-tail}
 use Rattle.chi_script.specs.declared.faults.Fault.{Fault}
 use Rattle.chi_script.specs.declared.faults.Fault.TheVariants as faults
 use Rattle.chi_script.specs.Faults.{Fails}
@@ -14,8 +15,9 @@ use Rattle.chi_replay.specs.declared.suites.SuiteFile.{SuiteFile}
 use Rattle.chi_replay.specs.Suites.{GivenFile, faulty_line, first_of, given, given_of}
 use Rattle.chi_coverage.specs.declared.cells.Cell.{Cell}
 use Rattle.chi_coverage.specs.declared.forms.CoverShape.{CoverShape}
+use Rattle.chi_coverage.specs.Cells.{is_unreachable}
 use Rattle.chi_coverage.specs.Counts.{CoverGoesOn, CoverState, IsCountedFile, count_at, cells_counted, cover_with}
-use Rattle.chi_coverage.specs.Coverage.{CoverCame, covered, unread, FileCover, IsCoverReport, IsFileCover, MayCover, cells_covered, cover_fault, cover_fault_line, cover_lines, cover_text, first_cover_fault, framed, is_reachable, is_reached, line_of_cell, reached_of, times_met}
+use Rattle.chi_coverage.specs.Coverage.{CoverCame, covered, unread, FileCover, IsCoverReport, IsFileCover, MayCover, cells_covered, cover_fault, cover_fault_line, cover_lines, cover_text, first_cover_fault, framed, is_reachable, is_reached, line_of_cell, reached_of, times_met, cell_line, unreachable_text}
 use Rattle.chi_coverage.specs.Lists.{all_cells}
 use Rattle.chi_coverage.specs.Places.{place_count}
 use Rattle.chi_coverage.proofs.Counting.{counted_append}
@@ -156,25 +158,43 @@ covers_next files i d old new low stands goes =
 pub covers_length : (files : List GivenFile) (state : CoverState) → CoversAt files state → length state.counts ≡ place_count
 covers_length files state stands = ap (λ (s : CoverState). length s.counts) stands.stands ∙ (counted_length stands.start (all_told stands.told) ∙ stands.long)
 
--- what is printed goes by the counts alone
-lines_same : (shape : CoverShape) (f g : Cell → ℕ) → ((c : Cell) → f c ≡ g c) → (cells : List Cell) → cover_lines shape f cells ≡ cover_lines shape g cells
-lines_same shape f g same [] = refl
-lines_same shape f g same (c ∷ cells) =
-    ap (λ (n : ℕ). line_of_cell shape n c ++ cover_lines shape f cells) (same c) ∙ ap (λ (l : List ℕ). line_of_cell shape (g c) c ++ l) (lines_same shape f g same cells)
+-- what is printed goes by the counts alone of the cells that a run may reach
+abbrev pub AreAlike : (f g : Cell → ℕ) → Cell → Type 0
+AreAlike f g cell = is_unreachable cell ≡ false → f cell ≡ g cell
 
-pub reached_same : (f g : Cell → ℕ) → ((c : Cell) → f c ≡ g c) → (cells : List Cell) → filter (is_reached f) cells ≡ filter (is_reached g) cells
-reached_same f g same [] = refl
-reached_same f g same (c ∷ cells) =
-    ap (λ (n : ℕ). cond (is_reachable c && nat_lt 0 n) (c ∷ filter (is_reached f) cells) (filter (is_reached f) cells)) (same c)
-    ∙ ap (λ (l : List Cell). cond (is_reached g c) (c ∷ l) l) (reached_same f g same cells)
+pub all_alike : (f g : Cell → ℕ) → ((cell : Cell) → f cell ≡ g cell) → (cells : List Cell) → All (AreAlike f g) cells
+all_alike f g same [] = All-nil (AreAlike f g)
+all_alike f g same (cell ∷ cells) = All-cons (AreAlike f g) cell cells (λ reach. same cell) (all_alike f g same cells)
+
+one_alike : (b : Bool) (out : List ℕ) (of : ℕ → List ℕ) (m n : ℕ) → (b ≡ false → m ≡ n) → cond b out (of m) ≡ cond b out (of n)
+one_alike true out of m n same = refl
+one_alike false out of m n same = ap of (same refl)
+
+test_alike : (b : Bool) (m n : ℕ) → (b ≡ false → m ≡ n) → (not b && nat_lt 0 m) ≡ (not b && nat_lt 0 n)
+test_alike true m n same = refl
+test_alike false m n same = ap (nat_lt 0) (same refl)
+
+lines_alike : (shape : CoverShape) (f g : Cell → ℕ) (cells : List Cell) → All (AreAlike f g) cells → cover_lines shape f cells ≡ cover_lines shape g cells
+lines_alike shape f g [] all = refl
+lines_alike shape f g (cell ∷ cells) all =
+    ap (λ (l : List ℕ). l ++ cover_lines shape f cells)
+    (one_alike (is_unreachable cell) (if shape.only_missing then [] else cell_line shape.form cell (unreachable_text shape.form))
+    (λ n. if shape.only_missing && nat_lt 0 n then [] else cell_line shape.form cell (decimal n)) (f cell) (g cell) (All-head (AreAlike f g) cell cells all))
+    ∙ ap (λ (l : List ℕ). line_of_cell shape (g cell) cell ++ l) (lines_alike shape f g cells (All-tail (AreAlike f g) cell cells all))
+
+pub reached_alike : (f g : Cell → ℕ) (cells : List Cell) → All (AreAlike f g) cells → filter (is_reached f) cells ≡ filter (is_reached g) cells
+reached_alike f g [] all = refl
+reached_alike f g (cell ∷ cells) all =
+    ap (λ (b : Bool). cond b (cell ∷ filter (is_reached f) cells) (filter (is_reached f) cells)) (test_alike (is_unreachable cell) (f cell) (g cell) (All-head (AreAlike f g) cell cells all))
+    ∙ ap (λ (l : List Cell). cond (is_reached g cell) (cell ∷ l) l) (reached_alike f g cells (All-tail (AreAlike f g) cell cells all))
 
 abbrev pub text_on : CoverShape → (Cell → ℕ) → List Cell → List ℕ
 text_on shape count cells = framed shape.form (cover_lines shape count cells) (length (filter (is_reached count) cells)) (length (filter is_reachable cells))
 
-pub text_same : (shape : CoverShape) (f g : Cell → ℕ) → ((c : Cell) → f c ≡ g c) → (cells : List Cell) → text_on shape f cells ≡ text_on shape g cells
-text_same shape f g same cells =
-    ap (λ (l : List ℕ). framed shape.form l (length (filter (is_reached f) cells)) (length (filter is_reachable cells))) (lines_same shape f g same cells)
-    ∙ ap (λ (l : List Cell). framed shape.form (cover_lines shape g cells) (length l) (length (filter is_reachable cells))) (reached_same f g same cells)
+pub text_alike : (shape : CoverShape) (f g : Cell → ℕ) (cells : List Cell) → All (AreAlike f g) cells → text_on shape f cells ≡ text_on shape g cells
+text_alike shape f g cells all =
+    ap (λ (l : List ℕ). framed shape.form l (length (filter (is_reached f) cells)) (length (filter is_reachable cells))) (lines_alike shape f g cells all)
+    ∙ ap (λ (l : List Cell). framed shape.form (cover_lines shape g cells) (length l) (length (filter is_reachable cells))) (reached_alike f g cells all)
 
 -- what was counted is how often each cell was met
 counts_met : (files : List GivenFile) (state : CoverState) (stands : CoversAt files state) (c : Cell) → count_at state.counts c ≡ times_met c (all_told stands.told)
@@ -183,15 +203,16 @@ counts_met files state stands c =
 
 covered_all : (shape : CoverShape) (files : List GivenFile) (state : CoverState) (text faults : List ℕ) (fault : Option Fault) (reached : ℕ) → CoversAt files state → text ≡ cover_text shape (count_at state.counts)
     → faults ≡ state.faults → fault ≡ state.fault → reached ≡ reached_of (count_at state.counts) → IsCoverReport shape files text faults fault reached
-covered_all shape files state text faults fault reached stands printed lines first count = record {
-  told = stands.told;
-  in_turn = stands.in_turn;
-  each = stands.each;
-  printed = printed ∙ text_same shape (count_at state.counts) (λ cell. times_met cell (all_told stands.told)) (counts_met files state stands) all_cells;
-  count = count ∙ ap (λ (l : List Cell). length l) (reached_same (count_at state.counts) (λ cell. times_met cell (all_told stands.told)) (counts_met files state stands) all_cells);
-  lines = lines ∙ ap (λ (s : CoverState). s.faults) stands.stands;
-  first = first ∙ ap (λ (s : CoverState). s.fault) stands.stands;
-}
+covered_all shape files state text faults fault reached stands printed lines first count =
+    let alike = all_alike (count_at state.counts) (λ cell. times_met cell (all_told stands.told)) (counts_met files state stands) all_cells in record {
+      told = stands.told;
+      in_turn = stands.in_turn;
+      each = stands.each;
+      printed = printed ∙ text_alike shape (count_at state.counts) (λ cell. times_met cell (all_told stands.told)) all_cells alike;
+      count = count ∙ ap (λ (l : List Cell). length l) (reached_alike (count_at state.counts) (λ cell. times_met cell (all_told stands.told)) all_cells alike);
+      lines = lines ∙ ap (λ (s : CoverState). s.faults) stands.stands;
+      first = first ∙ ap (λ (s : CoverState). s.fault) stands.stands;
+    }
 
 -- at the end the report is on all files
 pub covered_on : {T E : Type 0} (result : Result T E) (text_in faults_in : T → List ℕ) (fault_in : T → Option Fault) (reached_in : T → ℕ) (shape : CoverShape) (files : List SuiteFile) (i : ℕ) (state : CoverState)

@@ -2,4 +2,5 @@ pub mod Counting
 pub mod Leading
 pub mod Placing
 pub mod Covering
+pub mod Reading
 mod Adding

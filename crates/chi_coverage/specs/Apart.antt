@@ -2,8 +2,8 @@
 use Rattle.std.specs.Prelude.{Bool, true, ◌&&◌, not, List, [], ◌∷◌}
 use Rattle.std.specs.List.{list_any}
 use Rattle.chi_coverage.specs.declared.cells.Cell.{Cell}
-use Rattle.chi_coverage.specs.Places.{is_cell}
+use Rattle.chi_coverage.specs.Places.{is_same}
 
 abbrev pub are_apart : List Cell → Bool
 are_apart [] = true
-are_apart (cell ∷ cells) = not (list_any (is_cell cell) cells) && are_apart cells
+are_apart (cell ∷ cells) = not (list_any (is_same cell) cells) && are_apart cells

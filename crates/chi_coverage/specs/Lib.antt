@@ -1,8 +1,8 @@
 pub mod RequesterCells
 pub mod Situations
 pub mod Cells
-pub mod Places
 pub mod Lists
+pub mod Places
 pub mod Scenes
 pub mod Named
 pub mod Refused
@@ -20,4 +20,5 @@ pub mod Fillers
 pub mod Coverage
 pub mod Counts
 pub mod Merging
+pub mod Reading
 pub mod Apart

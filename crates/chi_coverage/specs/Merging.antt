@@ -1,5 +1,5 @@
 -- Earlier reports, whose counts are added up (docs/FORMATS.md, "Coverage").
-use Rattle.std.specs.Prelude.{◌≡◌, ℕ, ◌+◌, All, Bool, true, false, ◌||◌, List, [], ◌∷◌, ◌++◌, Option, Some, None, codes, length, map}
+use Rattle.std.specs.Prelude.{◌≡◌, ℕ, ◌+◌, ◌^◌, ◌<◌, All, Bool, true, false, ◌||◌, List, [], ◌∷◌, ◌++◌, Option, Some, None, codes, length, map}
 use Rattle.std.specs.List.{flat_map}
 use Rattle.chi_replay.specs.Suites.{GivenFile}
 use Rattle.chi_coverage.specs.declared.cells.Cell.{Cell}
@@ -9,11 +9,22 @@ use Rattle.chi_coverage.specs.Counts.{count_at}
 use Rattle.chi_coverage.specs.Coverage.{cover_text, reached_of}
 use Rattle.chi_coverage.specs.Places.{place_count}
 
+-- the report on all cells, in a form, of counts by place
+abbrev pub whole : CoverForm → CoverShape
+whole form = record { form = form; only_missing = false }
+
+abbrev pub report_text : CoverForm → List ℕ → List ℕ
+report_text form counts = cover_text (whole form) (count_at counts)
+
 -- the bytes are the report on all cells, in some form, of these counts by place
 pub record IsReport (bytes counts : List ℕ) : Type 0 where
   pub long : length counts ≡ place_count
   pub form : CoverForm
-  pub same : bytes ≡ cover_text (record { form = form; only_missing = false }) (count_at counts)
+  pub same : bytes ≡ report_text form counts
+
+-- they are that of no counts of 64 bits
+abbrev pub IsNoReport : List ℕ → Type 0
+IsNoReport bytes = (counts : List ℕ) → All (λ count. count < 2 ^ 64) counts → IsReport bytes counts → ⊥
 
 -- what comes of a file: its counts are added, or it is told why not
 pub data MergeCame : Type 0 where
@@ -27,7 +38,7 @@ MayMerge None unread = Unit {0}
 MayMerge None no_report = ⊥
 MayMerge (Some bytes) (added counts) = IsReport bytes counts
 MayMerge (Some bytes) unread = ⊥
-MayMerge (Some bytes) no_report = Unit {0}
+MayMerge (Some bytes) no_report = IsNoReport bytes
 
 -- a file, and what came of it
 pub record FileMerge : Type 0 where

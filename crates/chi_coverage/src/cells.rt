@@ -10,7 +10,7 @@ use std::fmt;
 
 /// The word that a command begins with.
 /// Source: `docs/FORMATS.md`, "Replay files".
-#[derive(Clone, Copy)]
+#[derive(Clone, Copy, PartialEq, Eq)]
 pub(crate) enum Verb {
     Load,
     Store,
@@ -39,7 +39,7 @@ pub(crate) enum Verb {
 
 /// What a command is refused for.
 /// Source: `docs/PROTOCOL.md`, "The actions".
-#[derive(Clone, Copy)]
+#[derive(Clone, Copy, PartialEq, Eq)]
 pub(crate) enum Reason {
     /// 10: there is no such agent, line, word, slot or credit type.
     Agent,
@@ -81,7 +81,7 @@ pub(crate) enum Reason {
 
 /// What the filter shows at the start of a request of agent n.
 /// Source: `docs/PROTOCOL.md`, "Start".
-#[derive(Clone, Copy)]
+#[derive(Clone, Copy, PartialEq, Eq)]
 pub(crate) enum Shown {
     /// To a read or a CleanUnique.
     Nobody,
@@ -101,7 +101,7 @@ pub(crate) enum Shown {
 
 /// How far a pending request has come that a snoop crosses.
 /// Source: `docs/PROTOCOL.md`, "What a line keeps".
-#[derive(Clone, Copy)]
+#[derive(Clone, Copy, PartialEq, Eq)]
 pub(crate) enum Stage {
     Sent,
     RetryAck,
@@ -112,7 +112,7 @@ pub(crate) enum Stage {
 
 /// The form of a message, without the slot and the data.
 /// Source: `docs/PROTOCOL.md`, "Messages".
-#[derive(Clone, Copy)]
+#[derive(Clone, Copy, PartialEq, Eq)]
 pub(crate) enum Form {
     /// A request of the kind, with AllowRetry or without.
     Request(Kind, bool),
@@ -134,7 +134,7 @@ pub(crate) enum Form {
 
 /// A cell of the protocol's tables, which a step of a run is in or isn't.
 /// Source: `docs/PROTOCOL.md`.
-#[derive(Clone, Copy)]
+#[derive(Clone, Copy, PartialEq, Eq)]
 pub(crate) enum Cell {
     /// The command is done.
     Done(Verb),

@@ -144,7 +144,7 @@ fn write_cells<A: Allocator>(
 }
 
 /// Puts the line of a cell behind the text, which was done so often.
-fn write_cell<A: Allocator>(
+pub(crate) fn write_cell<A: Allocator>(
     text: &mut Vec<u8, A>,
     cell: &Cell,
     count: u64,

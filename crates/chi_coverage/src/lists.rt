@@ -6,576 +6,313 @@ ghost use Rattle.chi_coverage.specs.Lists.{all_cells};
 use crate::cells::{Cell, Form, Reason, Shown, Stage, Verb};
 use crate::requester_cells::{Arrival, CreditsFound, RequesterCell};
 use crate::situations::Situation;
-use chi_flit::{CreditType, Kind, Profile, Snoop, State};
+use chi_flit::Kind::{
+    CleanUnique, Evict, ReadNotSharedDirty, ReadShared, ReadUnique, WriteBackFull, WriteCleanFull,
+    WriteEvictFull,
+};
+use chi_flit::State::{I, SC, SD, UC, UD};
+use chi_flit::{CreditType, Profile, Snoop};
+
+/// A cell of a row: the row's operands, and one of its own.
+macro_rules! cell {
+    (($outer:path => $inner:path, $first:expr) $last:expr) => {
+        $outer($inner($first, $last))
+    };
+    (($outer:path => $inner:path) $last:expr) => {
+        $outer($inner($last))
+    };
+    (($make:path) $last:expr) => {
+        $make($last)
+    };
+    (($make:path, _, $second:expr) $last:expr) => {
+        $make($last, $second)
+    };
+    (($make:path, $first:expr) $last:expr) => {
+        $make($first, $last)
+    };
+    (($make:path, $first:expr, $second:expr) $last:expr) => {
+        $make($first, $second, $last)
+    };
+}
+
+/// The cells of rows.
+macro_rules! cells {
+    ($($row:tt [$($last:expr),* $(,)?])*) => {
+        [$($(cell!($row $last)),*),*]
+    };
+}
 
 /// All of them, by the tables.
-const CELLS: [Cell; 565] = [
-    Cell::Done(Verb::Load),
-    Cell::Done(Verb::Store),
-    Cell::Done(Verb::Drop),
-    Cell::Done(Verb::Issue),
-    Cell::Done(Verb::Arrive),
-    Cell::Done(Verb::Start),
-    Cell::Done(Verb::Snp),
-    Cell::Done(Verb::SnpResp),
-    Cell::Done(Verb::RetryAck),
-    Cell::Done(Verb::Data),
-    Cell::Done(Verb::Comp),
-    Cell::Done(Verb::Dbid),
-    Cell::Done(Verb::Ack),
-    Cell::Done(Verb::WrData),
-    Cell::Done(Verb::Resend),
-    Cell::Done(Verb::Cancel),
-    Cell::Done(Verb::See),
-    Cell::Done(Verb::GiveBack),
-    Cell::Done(Verb::Tend),
-    Cell::Done(Verb::Flits),
-    Cell::Done(Verb::Show),
-    Cell::Done(Verb::Totals),
-    Cell::Done(Verb::Audit),
-    Cell::Refused(Verb::Load, Reason::Agent),
-    Cell::Refused(Verb::Load, Reason::Line),
-    Cell::Refused(Verb::Load, Reason::Word),
-    Cell::Refused(Verb::Load, Reason::State(State::I)),
-    Cell::Refused(Verb::Load, Reason::JournalFull),
-    Cell::Refused(Verb::Store, Reason::Agent),
-    Cell::Refused(Verb::Store, Reason::Line),
-    Cell::Refused(Verb::Store, Reason::Word),
-    Cell::Refused(Verb::Store, Reason::Pending),
-    Cell::Refused(Verb::Store, Reason::State(State::I)),
-    Cell::Refused(Verb::Store, Reason::State(State::SC)),
-    Cell::Refused(Verb::Store, Reason::State(State::SD)),
-    Cell::Refused(Verb::Store, Reason::JournalFull),
-    Cell::Refused(Verb::Drop, Reason::Agent),
-    Cell::Refused(Verb::Drop, Reason::Line),
-    Cell::Refused(Verb::Drop, Reason::Pending),
-    Cell::Refused(Verb::Drop, Reason::State(State::I)),
-    Cell::Refused(Verb::Drop, Reason::State(State::UD)),
-    Cell::Refused(Verb::Drop, Reason::State(State::SD)),
-    Cell::Refused(Verb::Issue, Reason::Agent),
-    Cell::Refused(Verb::Issue, Reason::Line),
-    Cell::Refused(Verb::Issue, Reason::Slot),
-    Cell::Refused(Verb::Issue, Reason::Pending),
-    Cell::Refused(Verb::Issue, Reason::SlotInUse),
-    Cell::Refused(Verb::Start, Reason::Agent),
-    Cell::Refused(Verb::Start, Reason::Line),
-    Cell::Refused(Verb::Start, Reason::NotWaiting),
-    Cell::Refused(Verb::Start, Reason::Snooping),
-    Cell::Refused(Verb::Start, Reason::CompAck),
-    Cell::Refused(Verb::Start, Reason::WriteData),
-    Cell::Refused(Verb::Arrive, Reason::Agent),
-    Cell::Refused(Verb::Arrive, Reason::Line),
-    Cell::Refused(Verb::Arrive, Reason::NoFlit),
-    Cell::Refused(Verb::Snp, Reason::Agent),
-    Cell::Refused(Verb::Snp, Reason::Line),
-    Cell::Refused(Verb::Snp, Reason::NoFlit),
-    Cell::Refused(Verb::SnpResp, Reason::Agent),
-    Cell::Refused(Verb::SnpResp, Reason::Line),
-    Cell::Refused(Verb::SnpResp, Reason::NoFlit),
-    Cell::Refused(Verb::RetryAck, Reason::Agent),
-    Cell::Refused(Verb::RetryAck, Reason::Line),
-    Cell::Refused(Verb::RetryAck, Reason::NoFlit),
-    Cell::Refused(Verb::Data, Reason::Agent),
-    Cell::Refused(Verb::Data, Reason::Line),
-    Cell::Refused(Verb::Data, Reason::NoFlit),
-    Cell::Refused(Verb::Comp, Reason::Agent),
-    Cell::Refused(Verb::Comp, Reason::Line),
-    Cell::Refused(Verb::Comp, Reason::NoFlit),
-    Cell::Refused(Verb::Dbid, Reason::Agent),
-    Cell::Refused(Verb::Dbid, Reason::Line),
-    Cell::Refused(Verb::Dbid, Reason::NoFlit),
-    Cell::Refused(Verb::Ack, Reason::Agent),
-    Cell::Refused(Verb::Ack, Reason::Line),
-    Cell::Refused(Verb::Ack, Reason::NoFlit),
-    Cell::Refused(Verb::WrData, Reason::Agent),
-    Cell::Refused(Verb::WrData, Reason::Line),
-    Cell::Refused(Verb::WrData, Reason::NoFlit),
-    Cell::Refused(Verb::Resend, Reason::Agent),
-    Cell::Refused(Verb::Resend, Reason::Line),
-    Cell::Refused(Verb::Resend, Reason::NothingPending),
-    Cell::Refused(Verb::Resend, Reason::NotRetried),
-    Cell::Refused(Verb::Resend, Reason::SentAgain),
-    Cell::Refused(Verb::Resend, Reason::NotSendable),
-    Cell::Refused(Verb::Resend, Reason::NoCredit),
-    Cell::Refused(Verb::Cancel, Reason::Agent),
-    Cell::Refused(Verb::Cancel, Reason::Line),
-    Cell::Refused(Verb::Cancel, Reason::NothingPending),
-    Cell::Refused(Verb::Cancel, Reason::NotRetried),
-    Cell::Refused(Verb::Cancel, Reason::SentAgain),
-    Cell::Refused(Verb::Cancel, Reason::NotCopyBack),
-    Cell::Refused(Verb::Cancel, Reason::Sendable),
-    Cell::Refused(Verb::See, Reason::Agent),
-    Cell::Refused(Verb::GiveBack, Reason::Agent),
-    Cell::Refused(Verb::GiveBack, Reason::Type),
-    Cell::Refused(Verb::Tend, Reason::Agent),
-    Cell::Refused(Verb::Tend, Reason::Type),
-    Cell::Refused(Verb::Flits, Reason::Agent),
-    Cell::Refused(Verb::Flits, Reason::Line),
-    Cell::Refused(Verb::Show, Reason::Line),
-    Cell::Requester(RequesterCell::NotReturned(false, false)),
-    Cell::Requester(RequesterCell::NotReturned(false, true)),
-    Cell::Requester(RequesterCell::NotReturned(true, false)),
-    Cell::BothFit(Verb::Store),
-    Cell::BothFit(Verb::Drop),
-    Cell::BothFit(Verb::Issue),
-    Cell::BothFit(Verb::Start),
-    Cell::BothFit(Verb::Resend),
-    Cell::BeforeFull(Verb::Load, false),
-    Cell::BeforeFull(Verb::Store, true),
-    Cell::BeforeFull(Verb::Store, false),
-    Cell::DoneIn(Verb::Load, State::SC),
-    Cell::DoneIn(Verb::Load, State::UC),
-    Cell::DoneIn(Verb::Load, State::UD),
-    Cell::DoneIn(Verb::Load, State::SD),
-    Cell::DoneIn(Verb::Store, State::UC),
-    Cell::DoneIn(Verb::Store, State::UD),
-    Cell::DoneIn(Verb::Drop, State::SC),
-    Cell::DoneIn(Verb::Drop, State::UC),
-    Cell::CompFinds(State::SC),
-    Cell::CompFinds(State::SD),
-    Cell::CompFinds(State::I),
-    Cell::Issue(Kind::ReadNotSharedDirty, State::I),
-    Cell::Issue(Kind::ReadNotSharedDirty, State::SC),
-    Cell::Issue(Kind::ReadNotSharedDirty, State::UC),
-    Cell::Issue(Kind::ReadNotSharedDirty, State::UD),
-    Cell::Issue(Kind::ReadNotSharedDirty, State::SD),
-    Cell::Issue(Kind::ReadShared, State::I),
-    Cell::Issue(Kind::ReadShared, State::SC),
-    Cell::Issue(Kind::ReadShared, State::UC),
-    Cell::Issue(Kind::ReadShared, State::UD),
-    Cell::Issue(Kind::ReadShared, State::SD),
-    Cell::Issue(Kind::ReadUnique, State::I),
-    Cell::Issue(Kind::ReadUnique, State::SC),
-    Cell::Issue(Kind::ReadUnique, State::UC),
-    Cell::Issue(Kind::ReadUnique, State::UD),
-    Cell::Issue(Kind::ReadUnique, State::SD),
-    Cell::Issue(Kind::CleanUnique, State::I),
-    Cell::Issue(Kind::CleanUnique, State::SC),
-    Cell::Issue(Kind::CleanUnique, State::UC),
-    Cell::Issue(Kind::CleanUnique, State::UD),
-    Cell::Issue(Kind::CleanUnique, State::SD),
-    Cell::Issue(Kind::Evict, State::I),
-    Cell::Issue(Kind::Evict, State::SC),
-    Cell::Issue(Kind::Evict, State::UC),
-    Cell::Issue(Kind::Evict, State::UD),
-    Cell::Issue(Kind::Evict, State::SD),
-    Cell::Issue(Kind::WriteBackFull, State::I),
-    Cell::Issue(Kind::WriteBackFull, State::SC),
-    Cell::Issue(Kind::WriteBackFull, State::UC),
-    Cell::Issue(Kind::WriteBackFull, State::UD),
-    Cell::Issue(Kind::WriteBackFull, State::SD),
-    Cell::Issue(Kind::WriteCleanFull, State::I),
-    Cell::Issue(Kind::WriteCleanFull, State::SC),
-    Cell::Issue(Kind::WriteCleanFull, State::UC),
-    Cell::Issue(Kind::WriteCleanFull, State::UD),
-    Cell::Issue(Kind::WriteCleanFull, State::SD),
-    Cell::Issue(Kind::WriteEvictFull, State::I),
-    Cell::Issue(Kind::WriteEvictFull, State::SC),
-    Cell::Issue(Kind::WriteEvictFull, State::UC),
-    Cell::Issue(Kind::WriteEvictFull, State::UD),
-    Cell::Issue(Kind::WriteEvictFull, State::SD),
-    Cell::Requester(RequesterCell::Retry(Kind::ReadNotSharedDirty, Profile::Two)),
-    Cell::Requester(RequesterCell::Retry(Kind::ReadNotSharedDirty, Profile::Four)),
-    Cell::Requester(RequesterCell::Retry(Kind::ReadShared, Profile::Two)),
-    Cell::Requester(RequesterCell::Retry(Kind::ReadShared, Profile::Four)),
-    Cell::Requester(RequesterCell::Retry(Kind::ReadUnique, Profile::Two)),
-    Cell::Requester(RequesterCell::Retry(Kind::ReadUnique, Profile::Four)),
-    Cell::Requester(RequesterCell::Retry(Kind::CleanUnique, Profile::Two)),
-    Cell::Requester(RequesterCell::Retry(Kind::CleanUnique, Profile::Four)),
-    Cell::Requester(RequesterCell::Retry(Kind::Evict, Profile::Two)),
-    Cell::Requester(RequesterCell::Retry(Kind::Evict, Profile::Four)),
-    Cell::Requester(RequesterCell::Retry(Kind::WriteBackFull, Profile::Two)),
-    Cell::Requester(RequesterCell::Retry(Kind::WriteBackFull, Profile::Four)),
-    Cell::Requester(RequesterCell::Retry(Kind::WriteCleanFull, Profile::Two)),
-    Cell::Requester(RequesterCell::Retry(Kind::WriteCleanFull, Profile::Four)),
-    Cell::Requester(RequesterCell::Retry(Kind::WriteEvictFull, Profile::Two)),
-    Cell::Requester(RequesterCell::Retry(Kind::WriteEvictFull, Profile::Four)),
-    Cell::Start(Kind::ReadNotSharedDirty, Shown::Nobody),
-    Cell::Start(Kind::ReadNotSharedDirty, Shown::Alone),
-    Cell::Start(Kind::ReadNotSharedDirty, Shown::OtherFlagged),
-    Cell::Start(Kind::ReadNotSharedDirty, Shown::OtherOwner),
-    Cell::Start(Kind::ReadNotSharedDirty, Shown::Others),
-    Cell::Start(Kind::ReadShared, Shown::Nobody),
-    Cell::Start(Kind::ReadShared, Shown::Alone),
-    Cell::Start(Kind::ReadShared, Shown::OtherFlagged),
-    Cell::Start(Kind::ReadShared, Shown::OtherOwner),
-    Cell::Start(Kind::ReadShared, Shown::Others),
-    Cell::Start(Kind::ReadUnique, Shown::Nobody),
-    Cell::Start(Kind::ReadUnique, Shown::Alone),
-    Cell::Start(Kind::ReadUnique, Shown::OtherFlagged),
-    Cell::Start(Kind::ReadUnique, Shown::OtherOwner),
-    Cell::Start(Kind::ReadUnique, Shown::Others),
-    Cell::Start(Kind::CleanUnique, Shown::Nobody),
-    Cell::Start(Kind::CleanUnique, Shown::Alone),
-    Cell::Start(Kind::CleanUnique, Shown::OtherFlagged),
-    Cell::Start(Kind::CleanUnique, Shown::OtherOwner),
-    Cell::Start(Kind::CleanUnique, Shown::Others),
-    Cell::Start(Kind::CleanUnique, Shown::OwnerAlone),
-    Cell::Start(Kind::CleanUnique, Shown::OwnerShares),
-    Cell::Start(Kind::Evict, Shown::NotNamed),
-    Cell::Start(Kind::Evict, Shown::Flagged),
-    Cell::Start(Kind::Evict, Shown::Named),
-    Cell::Start(Kind::Evict, Shown::Owner),
-    Cell::Start(Kind::WriteBackFull, Shown::NotNamed),
-    Cell::Start(Kind::WriteBackFull, Shown::Flagged),
-    Cell::Start(Kind::WriteBackFull, Shown::Named),
-    Cell::Start(Kind::WriteBackFull, Shown::Owner),
-    Cell::Start(Kind::WriteCleanFull, Shown::NotNamed),
-    Cell::Start(Kind::WriteCleanFull, Shown::Flagged),
-    Cell::Start(Kind::WriteCleanFull, Shown::Named),
-    Cell::Start(Kind::WriteCleanFull, Shown::Owner),
-    Cell::Start(Kind::WriteEvictFull, Shown::NotNamed),
-    Cell::Start(Kind::WriteEvictFull, Shown::Flagged),
-    Cell::Start(Kind::WriteEvictFull, Shown::Named),
-    Cell::Start(Kind::WriteEvictFull, Shown::Owner),
-    Cell::Answer(Form::SnpRespI, Kind::ReadNotSharedDirty, true),
-    Cell::Answer(Form::SnpRespI, Kind::ReadNotSharedDirty, false),
-    Cell::Answer(Form::SnpRespSC, Kind::ReadNotSharedDirty, true),
-    Cell::Answer(Form::SnpRespSC, Kind::ReadNotSharedDirty, false),
-    Cell::Answer(Form::SnpRespDataSCPD, Kind::ReadNotSharedDirty, true),
-    Cell::Answer(Form::SnpRespDataSCPD, Kind::ReadNotSharedDirty, false),
-    Cell::Answer(Form::SnpRespI, Kind::ReadShared, true),
-    Cell::Answer(Form::SnpRespI, Kind::ReadShared, false),
-    Cell::Answer(Form::SnpRespSC, Kind::ReadShared, true),
-    Cell::Answer(Form::SnpRespSC, Kind::ReadShared, false),
-    Cell::Answer(Form::SnpRespDataSD, Kind::ReadShared, true),
-    Cell::Answer(Form::SnpRespDataSD, Kind::ReadShared, false),
-    Cell::Answer(Form::SnpRespI, Kind::ReadUnique, true),
-    Cell::Answer(Form::SnpRespI, Kind::ReadUnique, false),
-    Cell::Answer(Form::SnpRespDataIPD, Kind::ReadUnique, true),
-    Cell::Answer(Form::SnpRespDataIPD, Kind::ReadUnique, false),
-    Cell::Answer(Form::SnpRespI, Kind::CleanUnique, true),
-    Cell::Answer(Form::SnpRespI, Kind::CleanUnique, false),
-    Cell::Answer(Form::SnpRespDataIPD, Kind::CleanUnique, true),
-    Cell::Answer(Form::SnpRespDataIPD, Kind::CleanUnique, false),
-    Cell::AnswerOf(Form::SnpRespI, true),
-    Cell::AnswerOf(Form::SnpRespI, false),
-    Cell::AnswerOf(Form::SnpRespSC, true),
-    Cell::AnswerOf(Form::SnpRespSC, false),
-    Cell::AnswerOf(Form::SnpRespDataIPD, true),
-    Cell::AnswerOf(Form::SnpRespDataIPD, false),
-    Cell::AnswerOf(Form::SnpRespDataSCPD, true),
-    Cell::AnswerOf(Form::SnpRespDataSCPD, false),
-    Cell::AnswerOf(Form::SnpRespDataSD, true),
-    Cell::AnswerOf(Form::SnpRespDataSD, false),
-    Cell::Completion(Kind::ReadNotSharedDirty, Form::CompData(true), false),
-    Cell::Completion(Kind::ReadNotSharedDirty, Form::CompData(true), true),
-    Cell::Completion(Kind::ReadNotSharedDirty, Form::CompData(false), false),
-    Cell::Completion(Kind::ReadNotSharedDirty, Form::CompData(false), true),
-    Cell::Completion(Kind::ReadShared, Form::CompData(true), false),
-    Cell::Completion(Kind::ReadShared, Form::CompData(true), true),
-    Cell::Completion(Kind::ReadShared, Form::CompData(false), false),
-    Cell::Completion(Kind::ReadShared, Form::CompData(false), true),
-    Cell::Completion(Kind::ReadUnique, Form::CompData(true), false),
-    Cell::Completion(Kind::ReadUnique, Form::CompData(true), true),
-    Cell::Completion(Kind::CleanUnique, Form::CompUC, false),
-    Cell::Completion(Kind::CleanUnique, Form::CompUC, true),
-    Cell::Situation(Situation::SharedData),
-    Cell::Situation(Situation::MemoryBehindShared),
-    Cell::Situation(Situation::ReadBehindPassed),
-    Cell::Situation(Situation::WriteBesideOwner),
-    Cell::Snooped(State::I, Snoop::SnpNotSharedDirty),
-    Cell::Snooped(State::SC, Snoop::SnpNotSharedDirty),
-    Cell::Snooped(State::UC, Snoop::SnpNotSharedDirty),
-    Cell::Snooped(State::UD, Snoop::SnpNotSharedDirty),
-    Cell::Snooped(State::SD, Snoop::SnpNotSharedDirty),
-    Cell::Snooped(State::I, Snoop::SnpShared),
-    Cell::Snooped(State::SC, Snoop::SnpShared),
-    Cell::Snooped(State::UC, Snoop::SnpShared),
-    Cell::Snooped(State::UD, Snoop::SnpShared),
-    Cell::Snooped(State::SD, Snoop::SnpShared),
-    Cell::Snooped(State::I, Snoop::SnpUnique),
-    Cell::Snooped(State::SC, Snoop::SnpUnique),
-    Cell::Snooped(State::UC, Snoop::SnpUnique),
-    Cell::Snooped(State::UD, Snoop::SnpUnique),
-    Cell::Snooped(State::SD, Snoop::SnpUnique),
-    Cell::Snooped(State::I, Snoop::SnpCleanInvalid),
-    Cell::Snooped(State::SC, Snoop::SnpCleanInvalid),
-    Cell::Snooped(State::UC, Snoop::SnpCleanInvalid),
-    Cell::Snooped(State::UD, Snoop::SnpCleanInvalid),
-    Cell::Snooped(State::SD, Snoop::SnpCleanInvalid),
-    Cell::Crossed(Snoop::SnpNotSharedDirty, Kind::ReadNotSharedDirty, State::I),
-    Cell::Crossed(Snoop::SnpNotSharedDirty, Kind::ReadShared, State::I),
-    Cell::Crossed(Snoop::SnpNotSharedDirty, Kind::ReadUnique, State::I),
-    Cell::Crossed(Snoop::SnpNotSharedDirty, Kind::CleanUnique, State::SC),
-    Cell::Crossed(Snoop::SnpNotSharedDirty, Kind::CleanUnique, State::SD),
-    Cell::Crossed(Snoop::SnpNotSharedDirty, Kind::CleanUnique, State::I),
-    Cell::Crossed(Snoop::SnpNotSharedDirty, Kind::Evict, State::I),
-    Cell::Crossed(Snoop::SnpNotSharedDirty, Kind::WriteBackFull, State::UD),
-    Cell::Crossed(Snoop::SnpNotSharedDirty, Kind::WriteBackFull, State::SD),
-    Cell::Crossed(Snoop::SnpNotSharedDirty, Kind::WriteBackFull, State::SC),
-    Cell::Crossed(Snoop::SnpNotSharedDirty, Kind::WriteBackFull, State::I),
-    Cell::Crossed(Snoop::SnpNotSharedDirty, Kind::WriteCleanFull, State::UD),
-    Cell::Crossed(Snoop::SnpNotSharedDirty, Kind::WriteCleanFull, State::SD),
-    Cell::Crossed(Snoop::SnpNotSharedDirty, Kind::WriteCleanFull, State::SC),
-    Cell::Crossed(Snoop::SnpNotSharedDirty, Kind::WriteCleanFull, State::I),
-    Cell::Crossed(Snoop::SnpNotSharedDirty, Kind::WriteEvictFull, State::UC),
-    Cell::Crossed(Snoop::SnpNotSharedDirty, Kind::WriteEvictFull, State::SC),
-    Cell::Crossed(Snoop::SnpNotSharedDirty, Kind::WriteEvictFull, State::I),
-    Cell::Crossed(Snoop::SnpShared, Kind::ReadNotSharedDirty, State::I),
-    Cell::Crossed(Snoop::SnpShared, Kind::ReadShared, State::I),
-    Cell::Crossed(Snoop::SnpShared, Kind::ReadUnique, State::I),
-    Cell::Crossed(Snoop::SnpShared, Kind::CleanUnique, State::SC),
-    Cell::Crossed(Snoop::SnpShared, Kind::CleanUnique, State::SD),
-    Cell::Crossed(Snoop::SnpShared, Kind::CleanUnique, State::I),
-    Cell::Crossed(Snoop::SnpShared, Kind::Evict, State::I),
-    Cell::Crossed(Snoop::SnpShared, Kind::WriteBackFull, State::UD),
-    Cell::Crossed(Snoop::SnpShared, Kind::WriteBackFull, State::SD),
-    Cell::Crossed(Snoop::SnpShared, Kind::WriteBackFull, State::SC),
-    Cell::Crossed(Snoop::SnpShared, Kind::WriteBackFull, State::I),
-    Cell::Crossed(Snoop::SnpShared, Kind::WriteCleanFull, State::UD),
-    Cell::Crossed(Snoop::SnpShared, Kind::WriteCleanFull, State::SD),
-    Cell::Crossed(Snoop::SnpShared, Kind::WriteCleanFull, State::SC),
-    Cell::Crossed(Snoop::SnpShared, Kind::WriteCleanFull, State::I),
-    Cell::Crossed(Snoop::SnpShared, Kind::WriteEvictFull, State::UC),
-    Cell::Crossed(Snoop::SnpShared, Kind::WriteEvictFull, State::SC),
-    Cell::Crossed(Snoop::SnpShared, Kind::WriteEvictFull, State::I),
-    Cell::Crossed(Snoop::SnpUnique, Kind::ReadNotSharedDirty, State::I),
-    Cell::Crossed(Snoop::SnpUnique, Kind::ReadShared, State::I),
-    Cell::Crossed(Snoop::SnpUnique, Kind::ReadUnique, State::I),
-    Cell::Crossed(Snoop::SnpUnique, Kind::CleanUnique, State::SC),
-    Cell::Crossed(Snoop::SnpUnique, Kind::CleanUnique, State::SD),
-    Cell::Crossed(Snoop::SnpUnique, Kind::CleanUnique, State::I),
-    Cell::Crossed(Snoop::SnpUnique, Kind::Evict, State::I),
-    Cell::Crossed(Snoop::SnpUnique, Kind::WriteBackFull, State::UD),
-    Cell::Crossed(Snoop::SnpUnique, Kind::WriteBackFull, State::SD),
-    Cell::Crossed(Snoop::SnpUnique, Kind::WriteBackFull, State::SC),
-    Cell::Crossed(Snoop::SnpUnique, Kind::WriteBackFull, State::I),
-    Cell::Crossed(Snoop::SnpUnique, Kind::WriteCleanFull, State::UD),
-    Cell::Crossed(Snoop::SnpUnique, Kind::WriteCleanFull, State::SD),
-    Cell::Crossed(Snoop::SnpUnique, Kind::WriteCleanFull, State::SC),
-    Cell::Crossed(Snoop::SnpUnique, Kind::WriteCleanFull, State::I),
-    Cell::Crossed(Snoop::SnpUnique, Kind::WriteEvictFull, State::UC),
-    Cell::Crossed(Snoop::SnpUnique, Kind::WriteEvictFull, State::SC),
-    Cell::Crossed(Snoop::SnpUnique, Kind::WriteEvictFull, State::I),
-    Cell::Crossed(Snoop::SnpCleanInvalid, Kind::ReadNotSharedDirty, State::I),
-    Cell::Crossed(Snoop::SnpCleanInvalid, Kind::ReadShared, State::I),
-    Cell::Crossed(Snoop::SnpCleanInvalid, Kind::ReadUnique, State::I),
-    Cell::Crossed(Snoop::SnpCleanInvalid, Kind::CleanUnique, State::SC),
-    Cell::Crossed(Snoop::SnpCleanInvalid, Kind::CleanUnique, State::SD),
-    Cell::Crossed(Snoop::SnpCleanInvalid, Kind::CleanUnique, State::I),
-    Cell::Crossed(Snoop::SnpCleanInvalid, Kind::Evict, State::I),
-    Cell::Crossed(Snoop::SnpCleanInvalid, Kind::WriteBackFull, State::UD),
-    Cell::Crossed(Snoop::SnpCleanInvalid, Kind::WriteBackFull, State::SD),
-    Cell::Crossed(Snoop::SnpCleanInvalid, Kind::WriteBackFull, State::SC),
-    Cell::Crossed(Snoop::SnpCleanInvalid, Kind::WriteBackFull, State::I),
-    Cell::Crossed(Snoop::SnpCleanInvalid, Kind::WriteCleanFull, State::UD),
-    Cell::Crossed(Snoop::SnpCleanInvalid, Kind::WriteCleanFull, State::SD),
-    Cell::Crossed(Snoop::SnpCleanInvalid, Kind::WriteCleanFull, State::SC),
-    Cell::Crossed(Snoop::SnpCleanInvalid, Kind::WriteCleanFull, State::I),
-    Cell::Crossed(Snoop::SnpCleanInvalid, Kind::WriteEvictFull, State::UC),
-    Cell::Crossed(Snoop::SnpCleanInvalid, Kind::WriteEvictFull, State::SC),
-    Cell::Crossed(Snoop::SnpCleanInvalid, Kind::WriteEvictFull, State::I),
-    Cell::CrossedAt(Kind::ReadNotSharedDirty, Stage::Sent),
-    Cell::CrossedAt(Kind::ReadNotSharedDirty, Stage::RetryAck),
-    Cell::CrossedAt(Kind::ReadNotSharedDirty, Stage::Retried),
-    Cell::CrossedAt(Kind::ReadNotSharedDirty, Stage::SentAgain),
-    Cell::CrossedAt(Kind::ReadNotSharedDirty, Stage::Waiting),
-    Cell::CrossedAt(Kind::ReadShared, Stage::Sent),
-    Cell::CrossedAt(Kind::ReadShared, Stage::RetryAck),
-    Cell::CrossedAt(Kind::ReadShared, Stage::Retried),
-    Cell::CrossedAt(Kind::ReadShared, Stage::SentAgain),
-    Cell::CrossedAt(Kind::ReadShared, Stage::Waiting),
-    Cell::CrossedAt(Kind::ReadUnique, Stage::Sent),
-    Cell::CrossedAt(Kind::ReadUnique, Stage::RetryAck),
-    Cell::CrossedAt(Kind::ReadUnique, Stage::Retried),
-    Cell::CrossedAt(Kind::ReadUnique, Stage::SentAgain),
-    Cell::CrossedAt(Kind::ReadUnique, Stage::Waiting),
-    Cell::CrossedAt(Kind::CleanUnique, Stage::Sent),
-    Cell::CrossedAt(Kind::CleanUnique, Stage::RetryAck),
-    Cell::CrossedAt(Kind::CleanUnique, Stage::Retried),
-    Cell::CrossedAt(Kind::CleanUnique, Stage::SentAgain),
-    Cell::CrossedAt(Kind::CleanUnique, Stage::Waiting),
-    Cell::CrossedAt(Kind::Evict, Stage::Sent),
-    Cell::CrossedAt(Kind::Evict, Stage::RetryAck),
-    Cell::CrossedAt(Kind::Evict, Stage::Retried),
-    Cell::CrossedAt(Kind::Evict, Stage::SentAgain),
-    Cell::CrossedAt(Kind::Evict, Stage::Waiting),
-    Cell::CrossedAt(Kind::WriteBackFull, Stage::Sent),
-    Cell::CrossedAt(Kind::WriteBackFull, Stage::RetryAck),
-    Cell::CrossedAt(Kind::WriteBackFull, Stage::Retried),
-    Cell::CrossedAt(Kind::WriteBackFull, Stage::SentAgain),
-    Cell::CrossedAt(Kind::WriteBackFull, Stage::Waiting),
-    Cell::CrossedAt(Kind::WriteCleanFull, Stage::Sent),
-    Cell::CrossedAt(Kind::WriteCleanFull, Stage::RetryAck),
-    Cell::CrossedAt(Kind::WriteCleanFull, Stage::Retried),
-    Cell::CrossedAt(Kind::WriteCleanFull, Stage::SentAgain),
-    Cell::CrossedAt(Kind::WriteCleanFull, Stage::Waiting),
-    Cell::CrossedAt(Kind::WriteEvictFull, Stage::Sent),
-    Cell::CrossedAt(Kind::WriteEvictFull, Stage::RetryAck),
-    Cell::CrossedAt(Kind::WriteEvictFull, Stage::Retried),
-    Cell::CrossedAt(Kind::WriteEvictFull, Stage::SentAgain),
-    Cell::CrossedAt(Kind::WriteEvictFull, Stage::Waiting),
-    Cell::WriteAsked(Kind::WriteBackFull, State::I),
-    Cell::WriteAsked(Kind::WriteBackFull, State::SC),
-    Cell::WriteAsked(Kind::WriteBackFull, State::UC),
-    Cell::WriteAsked(Kind::WriteBackFull, State::UD),
-    Cell::WriteAsked(Kind::WriteBackFull, State::SD),
-    Cell::WriteAsked(Kind::WriteCleanFull, State::I),
-    Cell::WriteAsked(Kind::WriteCleanFull, State::SC),
-    Cell::WriteAsked(Kind::WriteCleanFull, State::UC),
-    Cell::WriteAsked(Kind::WriteCleanFull, State::UD),
-    Cell::WriteAsked(Kind::WriteCleanFull, State::SD),
-    Cell::WriteAsked(Kind::WriteEvictFull, State::I),
-    Cell::WriteAsked(Kind::WriteEvictFull, State::SC),
-    Cell::WriteAsked(Kind::WriteEvictFull, State::UC),
-    Cell::WriteAsked(Kind::WriteEvictFull, State::UD),
-    Cell::WriteAsked(Kind::WriteEvictFull, State::SD),
-    Cell::WriteTaken(Kind::WriteBackFull, State::I),
-    Cell::WriteTaken(Kind::WriteBackFull, State::SC),
-    Cell::WriteTaken(Kind::WriteBackFull, State::UC),
-    Cell::WriteTaken(Kind::WriteBackFull, State::UD),
-    Cell::WriteTaken(Kind::WriteBackFull, State::SD),
-    Cell::WriteTaken(Kind::WriteCleanFull, State::I),
-    Cell::WriteTaken(Kind::WriteCleanFull, State::SC),
-    Cell::WriteTaken(Kind::WriteCleanFull, State::UC),
-    Cell::WriteTaken(Kind::WriteCleanFull, State::UD),
-    Cell::WriteTaken(Kind::WriteCleanFull, State::SD),
-    Cell::WriteTaken(Kind::WriteEvictFull, State::I),
-    Cell::WriteTaken(Kind::WriteEvictFull, State::SC),
-    Cell::WriteTaken(Kind::WriteEvictFull, State::UC),
-    Cell::WriteTaken(Kind::WriteEvictFull, State::UD),
-    Cell::WriteTaken(Kind::WriteEvictFull, State::SD),
-    Cell::BehindWrite(Verb::Store),
-    Cell::BehindWrite(Verb::Drop),
-    Cell::Situation(Situation::NoMessage),
-    Cell::Message(Form::Request(Kind::ReadNotSharedDirty, true)),
-    Cell::Message(Form::Request(Kind::ReadNotSharedDirty, false)),
-    Cell::Message(Form::Request(Kind::ReadShared, true)),
-    Cell::Message(Form::Request(Kind::ReadShared, false)),
-    Cell::Message(Form::Request(Kind::ReadUnique, true)),
-    Cell::Message(Form::Request(Kind::ReadUnique, false)),
-    Cell::Message(Form::Request(Kind::CleanUnique, true)),
-    Cell::Message(Form::Request(Kind::CleanUnique, false)),
-    Cell::Message(Form::Request(Kind::Evict, true)),
-    Cell::Message(Form::Request(Kind::Evict, false)),
-    Cell::Message(Form::Request(Kind::WriteBackFull, true)),
-    Cell::Message(Form::Request(Kind::WriteBackFull, false)),
-    Cell::Message(Form::Request(Kind::WriteCleanFull, true)),
-    Cell::Message(Form::Request(Kind::WriteCleanFull, false)),
-    Cell::Message(Form::Request(Kind::WriteEvictFull, true)),
-    Cell::Message(Form::Request(Kind::WriteEvictFull, false)),
-    Cell::Message(Form::Snp(Snoop::SnpNotSharedDirty)),
-    Cell::Message(Form::Snp(Snoop::SnpShared)),
-    Cell::Message(Form::Snp(Snoop::SnpUnique)),
-    Cell::Message(Form::Snp(Snoop::SnpCleanInvalid)),
-    Cell::Message(Form::RetryAck(CreditType::T0)),
-    Cell::Message(Form::RetryAck(CreditType::T1)),
-    Cell::Message(Form::RetryAck(CreditType::T2)),
-    Cell::Message(Form::RetryAck(CreditType::T3)),
-    Cell::Message(Form::CompUC),
-    Cell::Message(Form::CompI),
-    Cell::Message(Form::CompDBIDResp),
-    Cell::Message(Form::CompData(false)),
-    Cell::Message(Form::CompData(true)),
-    Cell::Message(Form::CompAck),
-    Cell::Message(Form::SnpRespI),
-    Cell::Message(Form::SnpRespSC),
-    Cell::Message(Form::SnpRespDataIPD),
-    Cell::Message(Form::SnpRespDataSCPD),
-    Cell::Message(Form::SnpRespDataSD),
-    Cell::Message(Form::CopyBackWrData(State::I)),
-    Cell::Message(Form::CopyBackWrData(State::SC)),
-    Cell::Message(Form::CopyBackWrData(State::UC)),
-    Cell::Message(Form::CopyBackWrData(State::UD)),
-    Cell::Message(Form::CopyBackWrData(State::SD)),
-    Cell::Situation(Situation::FullElsewhere),
-    Cell::Situation(Situation::LoadBehindStore),
-    Cell::Types(Profile::Two),
-    Cell::Types(Profile::Four),
-    Cell::Situation(Situation::OtherSlice),
-    Cell::Situation(Situation::EightAgents),
-    Cell::Situation(Situation::IssueBehindAck),
-    Cell::Situation(Situation::IssueBehindWrite),
-    Cell::Requester(RequesterCell::Arrive(Kind::ReadNotSharedDirty, Arrival::Admitted)),
-    Cell::Requester(RequesterCell::Arrive(Kind::ReadNotSharedDirty, Arrival::Retried)),
-    Cell::Requester(RequesterCell::Arrive(Kind::ReadNotSharedDirty, Arrival::Resent)),
-    Cell::Requester(RequesterCell::Arrive(Kind::ReadShared, Arrival::Admitted)),
-    Cell::Requester(RequesterCell::Arrive(Kind::ReadShared, Arrival::Retried)),
-    Cell::Requester(RequesterCell::Arrive(Kind::ReadShared, Arrival::Resent)),
-    Cell::Requester(RequesterCell::Arrive(Kind::ReadUnique, Arrival::Admitted)),
-    Cell::Requester(RequesterCell::Arrive(Kind::ReadUnique, Arrival::Retried)),
-    Cell::Requester(RequesterCell::Arrive(Kind::ReadUnique, Arrival::Resent)),
-    Cell::Requester(RequesterCell::Arrive(Kind::CleanUnique, Arrival::Admitted)),
-    Cell::Requester(RequesterCell::Arrive(Kind::CleanUnique, Arrival::Retried)),
-    Cell::Requester(RequesterCell::Arrive(Kind::CleanUnique, Arrival::Resent)),
-    Cell::Requester(RequesterCell::Arrive(Kind::Evict, Arrival::Admitted)),
-    Cell::Requester(RequesterCell::Arrive(Kind::Evict, Arrival::Retried)),
-    Cell::Requester(RequesterCell::Arrive(Kind::Evict, Arrival::Resent)),
-    Cell::Requester(RequesterCell::Arrive(Kind::WriteBackFull, Arrival::Admitted)),
-    Cell::Requester(RequesterCell::Arrive(Kind::WriteBackFull, Arrival::Retried)),
-    Cell::Requester(RequesterCell::Arrive(Kind::WriteBackFull, Arrival::Resent)),
-    Cell::Requester(RequesterCell::Arrive(Kind::WriteCleanFull, Arrival::Admitted)),
-    Cell::Requester(RequesterCell::Arrive(Kind::WriteCleanFull, Arrival::Retried)),
-    Cell::Requester(RequesterCell::Arrive(Kind::WriteCleanFull, Arrival::Resent)),
-    Cell::Requester(RequesterCell::Arrive(Kind::WriteEvictFull, Arrival::Admitted)),
-    Cell::Requester(RequesterCell::Arrive(Kind::WriteEvictFull, Arrival::Retried)),
-    Cell::Requester(RequesterCell::Arrive(Kind::WriteEvictFull, Arrival::Resent)),
-    Cell::Requester(RequesterCell::Resend(Kind::ReadNotSharedDirty, State::I)),
-    Cell::Requester(RequesterCell::Resend(Kind::ReadShared, State::I)),
-    Cell::Requester(RequesterCell::Resend(Kind::ReadUnique, State::I)),
-    Cell::Requester(RequesterCell::Resend(Kind::CleanUnique, State::SC)),
-    Cell::Requester(RequesterCell::Resend(Kind::CleanUnique, State::SD)),
-    Cell::Requester(RequesterCell::Resend(Kind::CleanUnique, State::I)),
-    Cell::Requester(RequesterCell::Resend(Kind::Evict, State::I)),
-    Cell::Requester(RequesterCell::Resend(Kind::WriteBackFull, State::UD)),
-    Cell::Requester(RequesterCell::Resend(Kind::WriteBackFull, State::SD)),
-    Cell::Requester(RequesterCell::Resend(Kind::WriteCleanFull, State::UD)),
-    Cell::Requester(RequesterCell::Resend(Kind::WriteCleanFull, State::SD)),
-    Cell::Requester(RequesterCell::Resend(Kind::WriteEvictFull, State::UC)),
-    Cell::Requester(RequesterCell::ResendRefused(Kind::WriteBackFull, State::SC)),
-    Cell::Requester(RequesterCell::ResendRefused(Kind::WriteBackFull, State::I)),
-    Cell::Requester(RequesterCell::ResendRefused(Kind::WriteCleanFull, State::SC)),
-    Cell::Requester(RequesterCell::ResendRefused(Kind::WriteCleanFull, State::I)),
-    Cell::Requester(RequesterCell::ResendRefused(Kind::WriteEvictFull, State::SC)),
-    Cell::Requester(RequesterCell::ResendRefused(Kind::WriteEvictFull, State::I)),
-    Cell::Requester(RequesterCell::Cancel(Kind::WriteBackFull, State::SC)),
-    Cell::Requester(RequesterCell::Cancel(Kind::WriteBackFull, State::I)),
-    Cell::Requester(RequesterCell::Cancel(Kind::WriteCleanFull, State::SC)),
-    Cell::Requester(RequesterCell::Cancel(Kind::WriteCleanFull, State::I)),
-    Cell::Requester(RequesterCell::Cancel(Kind::WriteEvictFull, State::SC)),
-    Cell::Requester(RequesterCell::Cancel(Kind::WriteEvictFull, State::I)),
-    Cell::Requester(RequesterCell::CancelRefused(Kind::ReadNotSharedDirty)),
-    Cell::Requester(RequesterCell::CancelRefused(Kind::ReadShared)),
-    Cell::Requester(RequesterCell::CancelRefused(Kind::ReadUnique)),
-    Cell::Requester(RequesterCell::CancelRefused(Kind::CleanUnique)),
-    Cell::Requester(RequesterCell::CancelRefused(Kind::Evict)),
-    Cell::Requester(RequesterCell::CancelRefused(Kind::WriteBackFull)),
-    Cell::Requester(RequesterCell::CancelRefused(Kind::WriteCleanFull)),
-    Cell::Requester(RequesterCell::CancelRefused(Kind::WriteEvictFull)),
-    Cell::Requester(RequesterCell::RetryTaken(Kind::ReadNotSharedDirty, true)),
-    Cell::Requester(RequesterCell::RetryTaken(Kind::ReadNotSharedDirty, false)),
-    Cell::Requester(RequesterCell::RetryTaken(Kind::ReadShared, true)),
-    Cell::Requester(RequesterCell::RetryTaken(Kind::ReadShared, false)),
-    Cell::Requester(RequesterCell::RetryTaken(Kind::ReadUnique, true)),
-    Cell::Requester(RequesterCell::RetryTaken(Kind::ReadUnique, false)),
-    Cell::Requester(RequesterCell::RetryTaken(Kind::CleanUnique, true)),
-    Cell::Requester(RequesterCell::RetryTaken(Kind::CleanUnique, false)),
-    Cell::Requester(RequesterCell::RetryTaken(Kind::Evict, true)),
-    Cell::Requester(RequesterCell::RetryTaken(Kind::Evict, false)),
-    Cell::Requester(RequesterCell::RetryTaken(Kind::WriteBackFull, true)),
-    Cell::Requester(RequesterCell::RetryTaken(Kind::WriteBackFull, false)),
-    Cell::Requester(RequesterCell::RetryTaken(Kind::WriteCleanFull, true)),
-    Cell::Requester(RequesterCell::RetryTaken(Kind::WriteCleanFull, false)),
-    Cell::Requester(RequesterCell::RetryTaken(Kind::WriteEvictFull, true)),
-    Cell::Requester(RequesterCell::RetryTaken(Kind::WriteEvictFull, false)),
-    Cell::Requester(RequesterCell::Seen(CreditsFound::Nothing)),
-    Cell::Requester(RequesterCell::Seen(CreditsFound::One)),
-    Cell::Requester(RequesterCell::Seen(CreditsFound::TwoOfAType)),
-    Cell::Requester(RequesterCell::Seen(CreditsFound::SeveralTypes)),
-    Cell::Released(Verb::Ack, true),
-    Cell::Released(Verb::Ack, false),
-    Cell::Released(Verb::WrData, true),
-    Cell::Released(Verb::WrData, false),
-    Cell::Released(Verb::Start, true),
-    Cell::Released(Verb::Start, false),
-    Cell::Released(Verb::GiveBack, true),
-    Cell::Released(Verb::GiveBack, false),
-    Cell::Released(Verb::Tend, true),
-    Cell::Released(Verb::Tend, false),
-    Cell::Situation(Situation::TendIdle),
-    Cell::Situation(Situation::OwnGrant),
-];
+const CELLS: [Cell; 565] = cells! {
+    (Cell::Done) [
+        Verb::Load, Verb::Store, Verb::Drop, Verb::Issue, Verb::Arrive, Verb::Start, Verb::Snp,
+        Verb::SnpResp, Verb::RetryAck, Verb::Data, Verb::Comp, Verb::Dbid, Verb::Ack, Verb::WrData,
+        Verb::Resend, Verb::Cancel, Verb::See, Verb::GiveBack, Verb::Tend, Verb::Flits, Verb::Show,
+        Verb::Totals, Verb::Audit,
+    ]
+    (Cell::Refused, Verb::Load) [
+        Reason::Agent, Reason::Line, Reason::Word, Reason::State(I), Reason::JournalFull,
+    ]
+    (Cell::Refused, Verb::Store) [
+        Reason::Agent, Reason::Line, Reason::Word, Reason::Pending, Reason::State(I),
+        Reason::State(SC), Reason::State(SD), Reason::JournalFull,
+    ]
+    (Cell::Refused, Verb::Drop) [
+        Reason::Agent, Reason::Line, Reason::Pending, Reason::State(I), Reason::State(UD),
+        Reason::State(SD),
+    ]
+    (Cell::Refused, Verb::Issue) [
+        Reason::Agent, Reason::Line, Reason::Slot, Reason::Pending, Reason::SlotInUse,
+    ]
+    (Cell::Refused, Verb::Start) [
+        Reason::Agent, Reason::Line, Reason::NotWaiting, Reason::Snooping, Reason::CompAck,
+        Reason::WriteData,
+    ]
+    (Cell::Refused, Verb::Arrive) [Reason::Agent, Reason::Line, Reason::NoFlit]
+    (Cell::Refused, Verb::Snp) [Reason::Agent, Reason::Line, Reason::NoFlit]
+    (Cell::Refused, Verb::SnpResp) [Reason::Agent, Reason::Line, Reason::NoFlit]
+    (Cell::Refused, Verb::RetryAck) [Reason::Agent, Reason::Line, Reason::NoFlit]
+    (Cell::Refused, Verb::Data) [Reason::Agent, Reason::Line, Reason::NoFlit]
+    (Cell::Refused, Verb::Comp) [Reason::Agent, Reason::Line, Reason::NoFlit]
+    (Cell::Refused, Verb::Dbid) [Reason::Agent, Reason::Line, Reason::NoFlit]
+    (Cell::Refused, Verb::Ack) [Reason::Agent, Reason::Line, Reason::NoFlit]
+    (Cell::Refused, Verb::WrData) [Reason::Agent, Reason::Line, Reason::NoFlit]
+    (Cell::Refused, Verb::Resend) [
+        Reason::Agent, Reason::Line, Reason::NothingPending, Reason::NotRetried, Reason::SentAgain,
+        Reason::NotSendable, Reason::NoCredit,
+    ]
+    (Cell::Refused, Verb::Cancel) [
+        Reason::Agent, Reason::Line, Reason::NothingPending, Reason::NotRetried, Reason::SentAgain,
+        Reason::NotCopyBack, Reason::Sendable,
+    ]
+    (Cell::Refused, Verb::See) [Reason::Agent]
+    (Cell::Refused, Verb::GiveBack) [Reason::Agent, Reason::Type]
+    (Cell::Refused, Verb::Tend) [Reason::Agent, Reason::Type]
+    (Cell::Refused, Verb::Flits) [Reason::Agent, Reason::Line]
+    (Cell::Refused, Verb::Show) [Reason::Line]
+    (Cell::Requester => RequesterCell::NotReturned, false) [false, true]
+    (Cell::Requester => RequesterCell::NotReturned, true) [false]
+    (Cell::BothFit) [Verb::Store, Verb::Drop, Verb::Issue, Verb::Start, Verb::Resend]
+    (Cell::BeforeFull, Verb::Load) [false]
+    (Cell::BeforeFull, Verb::Store) [true, false]
+    (Cell::DoneIn, Verb::Load) [SC, UC, UD, SD]
+    (Cell::DoneIn, Verb::Store) [UC, UD]
+    (Cell::DoneIn, Verb::Drop) [SC, UC]
+    (Cell::CompFinds) [SC, SD, I]
+    (Cell::Issue, ReadNotSharedDirty) [I, SC, UC, UD, SD]
+    (Cell::Issue, ReadShared) [I, SC, UC, UD, SD]
+    (Cell::Issue, ReadUnique) [I, SC, UC, UD, SD]
+    (Cell::Issue, CleanUnique) [I, SC, UC, UD, SD]
+    (Cell::Issue, Evict) [I, SC, UC, UD, SD]
+    (Cell::Issue, WriteBackFull) [I, SC, UC, UD, SD]
+    (Cell::Issue, WriteCleanFull) [I, SC, UC, UD, SD]
+    (Cell::Issue, WriteEvictFull) [I, SC, UC, UD, SD]
+    (Cell::Requester => RequesterCell::Retry, ReadNotSharedDirty) [Profile::Two, Profile::Four]
+    (Cell::Requester => RequesterCell::Retry, ReadShared) [Profile::Two, Profile::Four]
+    (Cell::Requester => RequesterCell::Retry, ReadUnique) [Profile::Two, Profile::Four]
+    (Cell::Requester => RequesterCell::Retry, CleanUnique) [Profile::Two, Profile::Four]
+    (Cell::Requester => RequesterCell::Retry, Evict) [Profile::Two, Profile::Four]
+    (Cell::Requester => RequesterCell::Retry, WriteBackFull) [Profile::Two, Profile::Four]
+    (Cell::Requester => RequesterCell::Retry, WriteCleanFull) [Profile::Two, Profile::Four]
+    (Cell::Requester => RequesterCell::Retry, WriteEvictFull) [Profile::Two, Profile::Four]
+    (Cell::Start, ReadNotSharedDirty) [
+        Shown::Nobody, Shown::Alone, Shown::OtherFlagged, Shown::OtherOwner, Shown::Others,
+    ]
+    (Cell::Start, ReadShared) [
+        Shown::Nobody, Shown::Alone, Shown::OtherFlagged, Shown::OtherOwner, Shown::Others,
+    ]
+    (Cell::Start, ReadUnique) [
+        Shown::Nobody, Shown::Alone, Shown::OtherFlagged, Shown::OtherOwner, Shown::Others,
+    ]
+    (Cell::Start, CleanUnique) [
+        Shown::Nobody, Shown::Alone, Shown::OtherFlagged, Shown::OtherOwner, Shown::Others,
+        Shown::OwnerAlone, Shown::OwnerShares,
+    ]
+    (Cell::Start, Evict) [Shown::NotNamed, Shown::Flagged, Shown::Named, Shown::Owner]
+    (Cell::Start, WriteBackFull) [Shown::NotNamed, Shown::Flagged, Shown::Named, Shown::Owner]
+    (Cell::Start, WriteCleanFull) [Shown::NotNamed, Shown::Flagged, Shown::Named, Shown::Owner]
+    (Cell::Start, WriteEvictFull) [Shown::NotNamed, Shown::Flagged, Shown::Named, Shown::Owner]
+    (Cell::Answer, Form::SnpRespI, ReadNotSharedDirty) [true, false]
+    (Cell::Answer, Form::SnpRespSC, ReadNotSharedDirty) [true, false]
+    (Cell::Answer, Form::SnpRespDataSCPD, ReadNotSharedDirty) [true, false]
+    (Cell::Answer, Form::SnpRespI, ReadShared) [true, false]
+    (Cell::Answer, Form::SnpRespSC, ReadShared) [true, false]
+    (Cell::Answer, Form::SnpRespDataSD, ReadShared) [true, false]
+    (Cell::Answer, Form::SnpRespI, ReadUnique) [true, false]
+    (Cell::Answer, Form::SnpRespDataIPD, ReadUnique) [true, false]
+    (Cell::Answer, Form::SnpRespI, CleanUnique) [true, false]
+    (Cell::Answer, Form::SnpRespDataIPD, CleanUnique) [true, false]
+    (Cell::AnswerOf, Form::SnpRespI) [true, false]
+    (Cell::AnswerOf, Form::SnpRespSC) [true, false]
+    (Cell::AnswerOf, Form::SnpRespDataIPD) [true, false]
+    (Cell::AnswerOf, Form::SnpRespDataSCPD) [true, false]
+    (Cell::AnswerOf, Form::SnpRespDataSD) [true, false]
+    (Cell::Completion, ReadNotSharedDirty, Form::CompData(true)) [false, true]
+    (Cell::Completion, ReadNotSharedDirty, Form::CompData(false)) [false, true]
+    (Cell::Completion, ReadShared, Form::CompData(true)) [false, true]
+    (Cell::Completion, ReadShared, Form::CompData(false)) [false, true]
+    (Cell::Completion, ReadUnique, Form::CompData(true)) [false, true]
+    (Cell::Completion, CleanUnique, Form::CompUC) [false, true]
+    (Cell::Situation) [
+        Situation::SharedData, Situation::MemoryBehindShared, Situation::ReadBehindPassed,
+        Situation::WriteBesideOwner,
+    ]
+    (Cell::Snooped, _, Snoop::SnpNotSharedDirty) [I, SC, UC, UD, SD]
+    (Cell::Snooped, _, Snoop::SnpShared) [I, SC, UC, UD, SD]
+    (Cell::Snooped, _, Snoop::SnpUnique) [I, SC, UC, UD, SD]
+    (Cell::Snooped, _, Snoop::SnpCleanInvalid) [I, SC, UC, UD, SD]
+    (Cell::Crossed, Snoop::SnpNotSharedDirty, ReadNotSharedDirty) [I]
+    (Cell::Crossed, Snoop::SnpNotSharedDirty, ReadShared) [I]
+    (Cell::Crossed, Snoop::SnpNotSharedDirty, ReadUnique) [I]
+    (Cell::Crossed, Snoop::SnpNotSharedDirty, CleanUnique) [SC, SD, I]
+    (Cell::Crossed, Snoop::SnpNotSharedDirty, Evict) [I]
+    (Cell::Crossed, Snoop::SnpNotSharedDirty, WriteBackFull) [UD, SD, SC, I]
+    (Cell::Crossed, Snoop::SnpNotSharedDirty, WriteCleanFull) [UD, SD, SC, I]
+    (Cell::Crossed, Snoop::SnpNotSharedDirty, WriteEvictFull) [UC, SC, I]
+    (Cell::Crossed, Snoop::SnpShared, ReadNotSharedDirty) [I]
+    (Cell::Crossed, Snoop::SnpShared, ReadShared) [I]
+    (Cell::Crossed, Snoop::SnpShared, ReadUnique) [I]
+    (Cell::Crossed, Snoop::SnpShared, CleanUnique) [SC, SD, I]
+    (Cell::Crossed, Snoop::SnpShared, Evict) [I]
+    (Cell::Crossed, Snoop::SnpShared, WriteBackFull) [UD, SD, SC, I]
+    (Cell::Crossed, Snoop::SnpShared, WriteCleanFull) [UD, SD, SC, I]
+    (Cell::Crossed, Snoop::SnpShared, WriteEvictFull) [UC, SC, I]
+    (Cell::Crossed, Snoop::SnpUnique, ReadNotSharedDirty) [I]
+    (Cell::Crossed, Snoop::SnpUnique, ReadShared) [I]
+    (Cell::Crossed, Snoop::SnpUnique, ReadUnique) [I]
+    (Cell::Crossed, Snoop::SnpUnique, CleanUnique) [SC, SD, I]
+    (Cell::Crossed, Snoop::SnpUnique, Evict) [I]
+    (Cell::Crossed, Snoop::SnpUnique, WriteBackFull) [UD, SD, SC, I]
+    (Cell::Crossed, Snoop::SnpUnique, WriteCleanFull) [UD, SD, SC, I]
+    (Cell::Crossed, Snoop::SnpUnique, WriteEvictFull) [UC, SC, I]
+    (Cell::Crossed, Snoop::SnpCleanInvalid, ReadNotSharedDirty) [I]
+    (Cell::Crossed, Snoop::SnpCleanInvalid, ReadShared) [I]
+    (Cell::Crossed, Snoop::SnpCleanInvalid, ReadUnique) [I]
+    (Cell::Crossed, Snoop::SnpCleanInvalid, CleanUnique) [SC, SD, I]
+    (Cell::Crossed, Snoop::SnpCleanInvalid, Evict) [I]
+    (Cell::Crossed, Snoop::SnpCleanInvalid, WriteBackFull) [UD, SD, SC, I]
+    (Cell::Crossed, Snoop::SnpCleanInvalid, WriteCleanFull) [UD, SD, SC, I]
+    (Cell::Crossed, Snoop::SnpCleanInvalid, WriteEvictFull) [UC, SC, I]
+    (Cell::CrossedAt, ReadNotSharedDirty) [
+        Stage::Sent, Stage::RetryAck, Stage::Retried, Stage::SentAgain, Stage::Waiting,
+    ]
+    (Cell::CrossedAt, ReadShared) [
+        Stage::Sent, Stage::RetryAck, Stage::Retried, Stage::SentAgain, Stage::Waiting,
+    ]
+    (Cell::CrossedAt, ReadUnique) [
+        Stage::Sent, Stage::RetryAck, Stage::Retried, Stage::SentAgain, Stage::Waiting,
+    ]
+    (Cell::CrossedAt, CleanUnique) [
+        Stage::Sent, Stage::RetryAck, Stage::Retried, Stage::SentAgain, Stage::Waiting,
+    ]
+    (Cell::CrossedAt, Evict) [
+        Stage::Sent, Stage::RetryAck, Stage::Retried, Stage::SentAgain, Stage::Waiting,
+    ]
+    (Cell::CrossedAt, WriteBackFull) [
+        Stage::Sent, Stage::RetryAck, Stage::Retried, Stage::SentAgain, Stage::Waiting,
+    ]
+    (Cell::CrossedAt, WriteCleanFull) [
+        Stage::Sent, Stage::RetryAck, Stage::Retried, Stage::SentAgain, Stage::Waiting,
+    ]
+    (Cell::CrossedAt, WriteEvictFull) [
+        Stage::Sent, Stage::RetryAck, Stage::Retried, Stage::SentAgain, Stage::Waiting,
+    ]
+    (Cell::WriteAsked, WriteBackFull) [I, SC, UC, UD, SD]
+    (Cell::WriteAsked, WriteCleanFull) [I, SC, UC, UD, SD]
+    (Cell::WriteAsked, WriteEvictFull) [I, SC, UC, UD, SD]
+    (Cell::WriteTaken, WriteBackFull) [I, SC, UC, UD, SD]
+    (Cell::WriteTaken, WriteCleanFull) [I, SC, UC, UD, SD]
+    (Cell::WriteTaken, WriteEvictFull) [I, SC, UC, UD, SD]
+    (Cell::BehindWrite) [Verb::Store, Verb::Drop]
+    (Cell::Situation) [Situation::NoMessage]
+    (Cell::Message => Form::Request, ReadNotSharedDirty) [true, false]
+    (Cell::Message => Form::Request, ReadShared) [true, false]
+    (Cell::Message => Form::Request, ReadUnique) [true, false]
+    (Cell::Message => Form::Request, CleanUnique) [true, false]
+    (Cell::Message => Form::Request, Evict) [true, false]
+    (Cell::Message => Form::Request, WriteBackFull) [true, false]
+    (Cell::Message => Form::Request, WriteCleanFull) [true, false]
+    (Cell::Message => Form::Request, WriteEvictFull) [true, false]
+    (Cell::Message => Form::Snp) [
+        Snoop::SnpNotSharedDirty, Snoop::SnpShared, Snoop::SnpUnique, Snoop::SnpCleanInvalid,
+    ]
+    (Cell::Message => Form::RetryAck) [
+        CreditType::T0, CreditType::T1, CreditType::T2, CreditType::T3,
+    ]
+    (Cell::Message) [Form::CompUC, Form::CompI, Form::CompDBIDResp]
+    (Cell::Message => Form::CompData) [false, true]
+    (Cell::Message) [
+        Form::CompAck, Form::SnpRespI, Form::SnpRespSC, Form::SnpRespDataIPD, Form::SnpRespDataSCPD,
+        Form::SnpRespDataSD,
+    ]
+    (Cell::Message => Form::CopyBackWrData) [I, SC, UC, UD, SD]
+    (Cell::Situation) [Situation::FullElsewhere, Situation::LoadBehindStore]
+    (Cell::Types) [Profile::Two, Profile::Four]
+    (Cell::Situation) [
+        Situation::OtherSlice, Situation::EightAgents, Situation::IssueBehindAck,
+        Situation::IssueBehindWrite,
+    ]
+    (Cell::Requester => RequesterCell::Arrive, ReadNotSharedDirty) [
+        Arrival::Admitted, Arrival::Retried, Arrival::Resent,
+    ]
+    (Cell::Requester => RequesterCell::Arrive, ReadShared) [
+        Arrival::Admitted, Arrival::Retried, Arrival::Resent,
+    ]
+    (Cell::Requester => RequesterCell::Arrive, ReadUnique) [
+        Arrival::Admitted, Arrival::Retried, Arrival::Resent,
+    ]
+    (Cell::Requester => RequesterCell::Arrive, CleanUnique) [
+        Arrival::Admitted, Arrival::Retried, Arrival::Resent,
+    ]
+    (Cell::Requester => RequesterCell::Arrive, Evict) [
+        Arrival::Admitted, Arrival::Retried, Arrival::Resent,
+    ]
+    (Cell::Requester => RequesterCell::Arrive, WriteBackFull) [
+        Arrival::Admitted, Arrival::Retried, Arrival::Resent,
+    ]
+    (Cell::Requester => RequesterCell::Arrive, WriteCleanFull) [
+        Arrival::Admitted, Arrival::Retried, Arrival::Resent,
+    ]
+    (Cell::Requester => RequesterCell::Arrive, WriteEvictFull) [
+        Arrival::Admitted, Arrival::Retried, Arrival::Resent,
+    ]
+    (Cell::Requester => RequesterCell::Resend, ReadNotSharedDirty) [I]
+    (Cell::Requester => RequesterCell::Resend, ReadShared) [I]
+    (Cell::Requester => RequesterCell::Resend, ReadUnique) [I]
+    (Cell::Requester => RequesterCell::Resend, CleanUnique) [SC, SD, I]
+    (Cell::Requester => RequesterCell::Resend, Evict) [I]
+    (Cell::Requester => RequesterCell::Resend, WriteBackFull) [UD, SD]
+    (Cell::Requester => RequesterCell::Resend, WriteCleanFull) [UD, SD]
+    (Cell::Requester => RequesterCell::Resend, WriteEvictFull) [UC]
+    (Cell::Requester => RequesterCell::ResendRefused, WriteBackFull) [SC, I]
+    (Cell::Requester => RequesterCell::ResendRefused, WriteCleanFull) [SC, I]
+    (Cell::Requester => RequesterCell::ResendRefused, WriteEvictFull) [SC, I]
+    (Cell::Requester => RequesterCell::Cancel, WriteBackFull) [SC, I]
+    (Cell::Requester => RequesterCell::Cancel, WriteCleanFull) [SC, I]
+    (Cell::Requester => RequesterCell::Cancel, WriteEvictFull) [SC, I]
+    (Cell::Requester => RequesterCell::CancelRefused) [
+        ReadNotSharedDirty, ReadShared, ReadUnique, CleanUnique, Evict, WriteBackFull,
+        WriteCleanFull, WriteEvictFull,
+    ]
+    (Cell::Requester => RequesterCell::RetryTaken, ReadNotSharedDirty) [true, false]
+    (Cell::Requester => RequesterCell::RetryTaken, ReadShared) [true, false]
+    (Cell::Requester => RequesterCell::RetryTaken, ReadUnique) [true, false]
+    (Cell::Requester => RequesterCell::RetryTaken, CleanUnique) [true, false]
+    (Cell::Requester => RequesterCell::RetryTaken, Evict) [true, false]
+    (Cell::Requester => RequesterCell::RetryTaken, WriteBackFull) [true, false]
+    (Cell::Requester => RequesterCell::RetryTaken, WriteCleanFull) [true, false]
+    (Cell::Requester => RequesterCell::RetryTaken, WriteEvictFull) [true, false]
+    (Cell::Requester => RequesterCell::Seen) [
+        CreditsFound::Nothing, CreditsFound::One, CreditsFound::TwoOfAType,
+        CreditsFound::SeveralTypes,
+    ]
+    (Cell::Released, Verb::Ack) [true, false]
+    (Cell::Released, Verb::WrData) [true, false]
+    (Cell::Released, Verb::Start) [true, false]
+    (Cell::Released, Verb::GiveBack) [true, false]
+    (Cell::Released, Verb::Tend) [true, false]
+    (Cell::Situation) [Situation::TendIdle, Situation::OwnGrant]
+};
 
 /// All cells, by the tables.
 #[tactic(auto, unfolding(crate::specs::Lists::all_cells))]

@@ -1,18 +1,23 @@
 //! Earlier reports, whose counts are added up.
 
-ghost use Rattle.std.specs.Prelude.{◌≡◌, ◌++◌, [], IfOk, IfSome, None, OnOk, Some, false, length, map, replicate, string_bytes, true};
+ghost use Rattle.std.specs.Prelude.{◌≡◌, ◌++◌, [], ◌≤◌, IfNone, IfOk, IfSome, None, OnOk, Some, drop, false, length, map, not, position, replicate, string_bytes, true};
+ghost use Rattle.std.specs.Char.{is_ascii_digit};
 ghost use Rattle.chi_replay.specs.Suites.{given, given_of};
 ghost use Rattle.chi_coverage.specs.Coverage.{cover_text, reached_of};
 ghost use Rattle.chi_coverage.specs.Counts.{count_at};
-ghost use Rattle.chi_coverage.specs.Merging.{IsMergeReport, IsReport, MergeGoesOn, fault_line, sums};
-ghost use Rattle.chi_coverage.specs.Places.{place_count};
+ghost use Rattle.chi_coverage.specs.Cells.{is_unreachable};
+ghost use Rattle.chi_coverage.specs.Lists.{all_cells};
+ghost use Rattle.chi_coverage.specs.Merging.{IsMergeReport, IsNoReport, IsReport, MergeGoesOn, fault_line, report_text, sums};
+ghost use Rattle.chi_coverage.specs.Places.{cell_place, place_count};
+ghost use Rattle.chi_coverage.specs.Reading.{IsNoReportIn, behind_digits, counts_with_line, digits_in, line_len, lines_in, number_in, read_from, rest_behind};
 
-use crate::forms::{CoverForm, CoverShape, reached_in, text_of};
+use crate::cells::Cell;
+use crate::forms::{CoverForm, CoverShape, reached_in, text_of, write_cell};
 use crate::lists::all_cells;
 use crate::places::PLACES;
 use chi_flit::NoMemory;
 use chi_replay::SuiteFile;
-use chi_script::first_line;
+use chi_script::number;
 use std::alloc::Allocator;
 use std::fmt::Write;
 
@@ -67,7 +72,7 @@ impl<A: Allocator + Copy> MergeRun<A> {
         ensures faulty { IfOk result (λ run. run.faulty ≡ false) }
     {
         Ok(MergeRun {
-            counts: vec![in alloc; 0; PLACES]?,
+            counts: no_counts(alloc)?,
             faults: String::new(alloc),
             faulty: false,
         })
@@ -162,6 +167,13 @@ impl<A: Allocator + Copy> MergeRun<A> {
     }
 }
 
+/// A count of 0 at each place. Refused where memory runs out.
+fn no_counts<A: Allocator + Copy>(alloc: A) -> Result<Vec<u64, A>, NoMemory>
+    ensures { IfOk result (λ counts. counts.items ≡ replicate place_count 0) }
+{
+    Ok(vec![in alloc; 0; PLACES]?)
+}
+
 /// The sums of counts, place by place. Refused where memory runs out, or a sum is too large.
 fn sums_of<A: Allocator>(alloc: A, some: &[u64], others: &[u64]) -> Result<Vec<u64, A>, NoMemory>
     requires { length some.now ≡ length others.now }
@@ -177,11 +189,33 @@ fn sums_of<A: Allocator>(alloc: A, some: &[u64], others: &[u64]) -> Result<Vec<u
 
 /// The counts of a report on all cells, whose bytes these are, in any form; `None` where it is no such report. Refused
 /// where memory runs out.
+#[tactic(auto, using(crate::proofs::Reading::no_report_of))]
 fn counts_of<A: Allocator + Copy>(alloc: A, bytes: &[u8]) -> Result<Option<Vec<u64, A>>, NoMemory>
-    ensures { IfOk result
+    ensures some { IfOk result
         (λ counts. IfSome counts (λ counts. IsReport bytes.now counts.items)) }
+    ensures none { IfOk result (λ counts. IfNone counts (IsNoReport bytes.now)) }
 {
-    let form = form_of(bytes);
+    if let Some(counts) = counts_in(alloc, bytes, CoverForm::Lines)? {
+        return Ok(Some(counts));
+    }
+    if let Some(counts) = counts_in(alloc, bytes, CoverForm::Json)? {
+        return Ok(Some(counts));
+    }
+    counts_in(alloc, bytes, CoverForm::Tsv)
+}
+
+/// The same in one form.
+fn counts_in<A: Allocator + Copy>(
+    alloc: A,
+    bytes: &[u8],
+    form: CoverForm,
+) -> Result<Option<Vec<u64, A>>, NoMemory>
+    ensures long { IfOk result
+        (λ counts. IfSome counts (λ counts. length counts.items ≡ place_count)) }
+    ensures some { IfOk result
+        (λ counts. IfSome counts (λ counts. bytes.now ≡ report_text form counts.items)) }
+    ensures none { IfOk result (λ counts. IfNone counts (IsNoReportIn form bytes.now)) }
+{
     let counts = read_counts(alloc, bytes, form)?;
     let shape = CoverShape {
         form,
@@ -195,60 +229,133 @@ fn counts_of<A: Allocator + Copy>(alloc: A, bytes: &[u8]) -> Result<Option<Vec<u
     }
 }
 
-/// The form that a report has, by its first byte or its first word.
-fn form_of(bytes: &[u8]) -> CoverForm {
-    if bytes.starts_with(b"{") {
-        CoverForm::Json
-    } else if bytes.starts_with(b"section\t") {
-        CoverForm::Tsv
-    } else {
-        CoverForm::Lines
-    }
-}
-
-/// The last number of each line, at the place of the line's cell. What it reads is held against the report that its
-/// counts give.
+/// The number of each line, at the place of the line's cell. What it reads is held against the report that its counts
+/// give. Refused where memory runs out.
 fn read_counts<A: Allocator + Copy>(
     alloc: A,
     bytes: &[u8],
     form: CoverForm,
 ) -> Result<Vec<u64, A>, NoMemory>
-    ensures { IfOk result (λ counts. length counts.items ≡ place_count) }
+    ensures long { IfOk result (λ counts. length counts.items ≡ place_count) }
+    ensures read { IfOk result (λ counts. counts.items
+        ≡ read_from form all_cells (lines_in form bytes.now) (replicate place_count 0)) }
 {
-    let mut counts = vec![in alloc; 0; PLACES]?;
-    let mut rest = bytes;
-    if form != CoverForm::Lines {
-        rest = next_line(rest).1;
-    }
-    for cell in all_cells() {
-        let (line, behind) = next_line(rest);
-        if !cell.is_unreachable() {
-            counts[cell.place()] = last_number(line);
-        }
-        rest = behind;
-    }
+    let mut counts = no_counts(alloc)?;
+    read_lines(alloc, &mut counts, all_cells(), form, lines_in(bytes, form))?;
     Ok(counts)
 }
 
-/// The first line, and what stands behind it; nothing where there is no line end.
-fn next_line(bytes: &[u8]) -> (&[u8], &[u8]) {
-    match first_line(bytes) {
-        Some(parts) => parts,
-        None => (&bytes[..0], &bytes[..0]),
+/// Puts the counts of the cells' lines in their places. Refused where memory runs out.
+fn read_lines<A: Allocator + Copy>(
+    alloc: A,
+    counts: &mut Vec<u64, A>,
+    cells: &[Cell],
+    form: CoverForm,
+    lines: &[u8],
+) -> Result<(), NoMemory>
+    requires { length counts.old.items ≡ place_count }
+    ensures long { OnOk result (length counts.new.items ≡ place_count) }
+    ensures read { OnOk result
+        (counts.new.items ≡ read_from form cells.now lines.now counts.old.items) }
+{
+    let mut rest = lines;
+    for cell in cells {
+        let len = line_len(alloc, cell, form)?;
+        rest = read_line(counts, cell, len, rest);
+    }
+    Ok(())
+}
+
+/// Where the lines of the cells begin, behind the names of their values; in JSON behind the names of both numbers, and with
+/// the bracket before the lines.
+fn lines_in(bytes: &[u8], form: CoverForm) -> &[u8]
+    ensures { result.now ≡ lines_in form bytes.now }
+{
+    match form {
+        CoverForm::Lines => bytes,
+        CoverForm::Json => {
+            let reached = behind(bytes, 11);
+            let reachable = behind(behind_digits(reached), 6);
+            behind(behind_digits(reachable), 9)
+        }
+        CoverForm::Tsv => behind(bytes, 19),
     }
 }
 
-/// The last number of a line; 0 where there is none, and the largest one where it is too large.
-fn last_number(line: &[u8]) -> u64 {
-    let mut number = 0_u64;
-    let mut inside = false;
-    for byte in line {
-        if byte.is_ascii_digit() {
-            let before = if inside { number } else { 0 };
-            let digit = u64::from(byte.wrapping_sub(b'0'));
-            number = before.saturating_mul(10).saturating_add(digit);
-        }
-        inside = byte.is_ascii_digit();
+/// How long the cell's line is with the count 0. Refused where memory runs out.
+fn line_len<A: Allocator>(alloc: A, cell: &Cell, form: CoverForm) -> Result<usize, NoMemory>
+    ensures { IfOk result (λ len. len ≡ line_len form cell.now) }
+{
+    let mut line = Vec::new(alloc);
+    let shape = CoverShape {
+        form,
+        only_missing: false,
+    };
+    write_cell(&mut line, cell, 0, shape)?;
+    Ok(line.len())
+}
+
+/// Puts the count of a cell's line in its place, and answers the bytes behind the line.
+fn read_line<'a, A: Allocator>(
+    counts: &mut Vec<u64, A>,
+    cell: &Cell,
+    len: usize,
+    rest: &'a [u8],
+) -> &'a [u8]
+    requires { length counts.old.items ≡ place_count }
+    ensures counts { counts.new.items ≡ counts_with_line (is_unreachable cell.now) len
+        (cell_place cell.now) rest.now counts.old.items }
+    ensures rest { result.now ≡ rest_behind (is_unreachable cell.now) len rest.now }
+{
+    if cell.is_unreachable() {
+        return behind(rest, len);
     }
-    number
+    let number = behind(rest, len.saturating_sub(2));
+    counts[cell.place()] = number_in(number);
+    behind(behind_digits(number), 1)
+}
+
+/// The bytes behind so many.
+fn behind(bytes: &[u8], len: usize) -> &[u8]
+    ensures { result.now ≡ drop len bytes.now }
+{
+    match bytes.get(len..) {
+        Some(rest) => rest,
+        None => &bytes[..0],
+    }
+}
+
+fn is_no_digit(byte: &u8) -> bool
+    ensures { result ≡ not (is_ascii_digit byte.now) }
+{
+    !byte.is_ascii_digit()
+}
+
+/// Where the first byte stands that is no digit.
+fn first_other(bytes: &[u8]) -> Option<usize>
+    ensures { result ≡ position (λ byte. not (is_ascii_digit byte)) bytes.now }
+{
+    bytes.iter().position(is_no_digit)
+}
+
+/// How many digits stand in front.
+#[tactic(auto, using(crate::proofs::Reading::digits_found, crate::proofs::Reading::digits_low))]
+fn digits_in(bytes: &[u8]) -> usize
+    ensures is { result ≡ digits_in bytes.now }
+    ensures low { result ≤ length bytes.now }
+{
+    first_other(bytes).unwrap_or(bytes.len())
+}
+
+/// The number that the digits in front are; 0 where they are none.
+fn number_in(bytes: &[u8]) -> u64
+    ensures { result ≡ number_in bytes.now }
+{
+    number(&bytes[..digits_in(bytes)]).unwrap_or(0)
+}
+
+fn behind_digits(bytes: &[u8]) -> &[u8]
+    ensures { result.now ≡ behind_digits bytes.now }
+{
+    &bytes[digits_in(bytes)..]
 }

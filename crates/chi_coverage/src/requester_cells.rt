@@ -8,7 +8,7 @@ use std::fmt;
 
 /// What becomes of a request that arrives.
 /// Source: `docs/PROTOCOL.md`, "A requester and its calls".
-#[derive(Clone, Copy)]
+#[derive(Clone, Copy, PartialEq, Eq)]
 pub(crate) enum Arrival {
     Admitted,
     Retried,
@@ -17,7 +17,7 @@ pub(crate) enum Arrival {
 
 /// What a `see` finds.
 /// Source: `docs/PROTOCOL.md`, "A requester and its calls".
-#[derive(Clone, Copy)]
+#[derive(Clone, Copy, PartialEq, Eq)]
 pub(crate) enum CreditsFound {
     Nothing,
     One,
@@ -28,7 +28,7 @@ pub(crate) enum CreditsFound {
 
 /// A cell of a requester's calls.
 /// Source: `docs/PROTOCOL.md`, "A requester and its calls".
-#[derive(Clone, Copy)]
+#[derive(Clone, Copy, PartialEq, Eq)]
 pub(crate) enum RequesterCell {
     /// A request of the kind is retried, on a node of the profile.
     Retry(Kind, Profile),

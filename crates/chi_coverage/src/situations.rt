@@ -7,7 +7,7 @@ use std::fmt;
 
 /// A situation that is a cell by itself, with no operand.
 /// Source: `docs/PROTOCOL.md`, the sections that `section` names.
-#[derive(Clone, Copy)]
+#[derive(Clone, Copy, PartialEq, Eq)]
 pub(crate) enum Situation {
     /// Write data comes home while another agent is the owner.
     WriteBesideOwner,
