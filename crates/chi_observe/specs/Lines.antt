@@ -3,7 +3,6 @@ use Rattle.std.specs.Prelude.{◌≡◌, ℕ, ◌==◌, ◌&&◌, ◌||◌, Bool
 use Rattle.std.specs.Map.{lookup}
 use Rattle.chi_trace.specs.declared.fields.NodeId.{NodeId}
 use Rattle.chi_observer.specs.declared.flits.Flit.{Flit}
-use Rattle.chi_observer.specs.declared.observer.Observer.{Observer}
 use Rattle.chi_observer.specs.Lines.{Watched, is_reason, is_taken, nothing_watched, watch, watched}
 use Rattle.chi_observe.specs.declared.ids.CacheLine.{CacheLine}
 use Rattle.chi_observe.specs.declared.lines.LineSeen.{LineSeen}
@@ -40,6 +39,11 @@ state_at lines number line home = unwrap_or (lines line.0) (opened_line number h
 
 abbrev pub put_line : CacheLine → LineState → (ℕ → Option LineState) → ℕ → Option LineState
 put_line line state lines l = if line.0 == l then Some state else lines l
+
+-- the home of its first flit
+abbrev pub home_of : Option LineState → Option NodeId
+home_of None = None
+home_of (Some s) = Some s.home
 
 -- it isn't judged any more
 abbrev pub is_aside : Option LineState → Bool

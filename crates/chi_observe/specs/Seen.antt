@@ -1,5 +1,5 @@
 -- What each line of a trace is to a watch, a row for each opcode (docs/OBSERVER.md, "A trace of many lines").
-use Rattle.std.specs.Prelude.{ℕ, ◌/◌, Bool, List, Option, Some, None, if◌then◌else◌, option_map, replicate}
+use Rattle.std.specs.Prelude.{ℕ, ◌/◌, List, Option, Some, None, replicate}
 use Rattle.chi_flit.specs.declared.kind.Kind.{Kind}
 use Rattle.chi_flit.specs.declared.kind.Kind.TheVariants as kinds
 use Rattle.chi_flit.specs.declared.snoop.Snoop.{Snoop}
@@ -168,6 +168,10 @@ snoop_event s snoop fields = down s fields.target None (steps.Snoop fields.txn s
 abbrev pub read_event : AnySeen → Transaction → Resp → Option DbId → Beat → Event
 read_event s t resp dbid beat = down s t.target t.address (steps.ReadData t.txn dbid beat.there) (read_told resp beat)
 
+-- a load or a store: its words aren't judged
+abbrev pub access_event : AnySeen → Address → Act → Event
+access_event s address act = events.Access (record { number = s.line; requester = s.source; line = line_of address; tells = Sent act no_data })
+
 -- a flit of the profile
 abbrev pub profile_event : AnySeen → Flit → Event
 profile_event s (flits.Request kind spends target txn address) = request_event s (kind_named kind) (record { spends = spends; target = target; txn = txn; address = address })
@@ -183,8 +187,8 @@ profile_event s (flits.CompAck t) = up s t.target t.address (steps.Acknowledge (
 profile_event s (flits.CompData resp dbid t beat) = read_event s t resp (Some dbid) beat
 profile_event s (flits.SnpRespData resp t beat) = up s t.target t.address (steps.AnswerData t.txn beat.there) (answer_data_told resp beat)
 profile_event s (flits.CopyBackWrData resp t beat) = up s t.target t.address (steps.WriteData (named_buffer t) beat.there) (written_told resp beat)
-profile_event s (flits.Load address value) = events.Access
-profile_event s (flits.Store address value) = events.Access
+profile_event s (flits.Load address value) = access_event s address acts.Load
+profile_event s (flits.Store address value) = access_event s address acts.Store
 
 -- and any other
 abbrev pub event_by : AnySeen → AnyFlit → Event

@@ -1,14 +1,16 @@
 -- A watch over a trace: what its flits have told, and which flits it takes (docs/OBSERVER.md, "A trace of many lines").
-use Rattle.std.specs.Prelude.{◌≡◌, ℕ, ◌+◌, ◌==◌, ◌&&◌, ◌||◌, Bool, true, false, not, List, [], Option, Some, None, Result, Ok, Err, if◌then◌else◌, is_none, is_some, unwrap_or}
+use Rattle.std.specs.Prelude.{◌≡◌, ℕ, ◌+◌, ◌||◌, Bool, true, false, not, List, [], Option, Some, None, Result, Ok, Err, if◌then◌else◌, is_none, unwrap_or}
 use Rattle.chi_flit.specs.declared.numbers.Agent.{Agent}
 use Rattle.chi_trace.specs.declared.fields.NodeId.{NodeId}
-use Rattle.chi_trace.specs.declared.fields.PcrdType.{PcrdType}
+use Rattle.chi_observer.specs.declared.observer.Reason.TheVariants.{NotSent}
 use Rattle.chi_observe.specs.declared.lines.LineNews.{LineNews}
+use Rattle.chi_observe.specs.declared.lines.LineNews.TheVariants as news
 use Rattle.chi_observe.specs.declared.tables.Part.{Part}
 use Rattle.chi_observe.specs.declared.tables.Part.TheVariants as parts
 use Rattle.chi_observe.specs.declared.credits.Account.{Account}
 use Rattle.chi_observe.specs.declared.credits.AccountNumbers.{AccountNumbers}
 use Rattle.chi_observe.specs.declared.credits.Booking.{Booking}
+use Rattle.chi_observe.specs.declared.events.AccessEvent.{AccessEvent}
 use Rattle.chi_observe.specs.declared.events.Event.{Event}
 use Rattle.chi_observe.specs.declared.events.Event.TheVariants as events
 use Rattle.chi_observe.specs.declared.events.LineEvent.{LineEvent}
@@ -21,6 +23,7 @@ use Rattle.chi_observe.specs.declared.ids.Sides.{Sides}
 use Rattle.chi_observe.specs.declared.reasons.IdReason.{IdReason}
 use Rattle.chi_observe.specs.declared.reasons.IdReason.TheVariants.{Form}
 use Rattle.chi_observe.specs.declared.reasons.LineReason.{LineReason}
+use Rattle.chi_observe.specs.declared.reasons.LineReason.TheVariants.{Rule}
 use Rattle.chi_observe.specs.declared.tables.Change.{Change}
 use Rattle.chi_observe.specs.declared.steps.WatchOptions.{WatchOptions}
 use Rattle.chi_observe.specs.declared.watch.Aside.{Aside}
@@ -31,8 +34,8 @@ use Rattle.chi_observe.specs.declared.watch.WatchFault.TheVariants as faults
 use Rattle.chi_observe.specs.declared.watch.WatchStop.{WatchStop}
 use Rattle.chi_observe.specs.declared.watch.WatchStop.TheVariants as stops
 use Rattle.chi_observe.specs.Credits.{booked, booked_all}
-use Rattle.chi_observe.specs.Events.{news_of}
-use Rattle.chi_observe.specs.Lines.{LineState, is_aside, is_line_reason, is_put_aside, line_next, lines_in, put_line, state_at, takes_line}
+use Rattle.chi_observe.specs.Events.{flit_by, news_of}
+use Rattle.chi_observe.specs.Lines.{LineState, home_of, is_aside, is_line_reason, is_put_aside, line_next, lines_in, put_line, state_at, takes_line}
 use Rattle.chi_observe.specs.Nodes.{agent_of, with_home, with_requester}
 use Rattle.chi_observe.specs.Grants.{granted, returned}
 use Rattle.chi_observe.specs.Steps.{change_of, ids_after}
@@ -106,6 +109,9 @@ counts_after parts.First aside fresh n = counts_aside aside (counts_first fresh 
 counts_after parts.Further aside fresh n = counts_aside aside n
 counts_after (parts.Last tells) aside fresh n = counts_aside aside n
 
+abbrev pub counts_access : Option Aside → Counts → Counts
+counts_access aside n = counts_aside aside (record n { accesses = n.accesses + 1 })
+
 -- a flit of a line that does this, and a beat that is neither its first nor its last
 abbrev pub flit_after : Watched → LineEvent → Change → Watched
 flit_after w e change = record {
@@ -142,12 +148,36 @@ abbrev pub credit_after : Watched → Result Booking IdReason → Option Watched
 credit_after w (Ok booking) = Some (booking_after w booking)
 credit_after w (Err reason) = None
 
-abbrev pub access_after : Watched → Watched
-access_after w = record w { counts = record w.counts { accesses = w.counts.accesses + 1 } }
+-- A load or a store is told to its line, as a flit of the line's home would be.
+abbrev pub access_agent : Watched → AccessEvent → NodeId → Option Agent
+access_agent w e home = agent_of w.requesters w.homes (record { requester = e.requester; home = home })
+
+abbrev pub access_news : Watched → AccessEvent → NodeId → LineNews
+access_news w e home = news.Flit (flit_by e.tells (access_agent w e home))
+
+abbrev pub access_next : Watched → AccessEvent → NodeId → Watched
+access_next w e home = record w {
+  requesters = with_requester (access_agent w e home) e.requester w.requesters;
+  lines = put_line e.line (line_next (state_at w.lines e.number e.line home) e.number (access_news w e home)) w.lines;
+  counts = counts_access (mark_of w.lines e.line (access_news w e home) e.number) w.counts;
+}
+
+abbrev pub access_told : Watched → AccessEvent → NodeId → Option Watched
+access_told w e home = if takes_line (state_at w.lines e.number e.line home) home (access_news w e home) then Some (access_next w e home) else None
+
+-- of a line that no flit has touched no cache has a copy
+abbrev pub access_after : Watched → AccessEvent → Option NodeId → Option Watched
+access_after w e None = None
+access_after w e (Some home) = access_told w e home
+
+abbrev pub is_access_reason : Watched → AccessEvent → Option NodeId → LineReason → Bool
+is_access_reason w e None (Rule NotSent) = true
+is_access_reason w e None reason = false
+is_access_reason w e (Some home) reason = is_line_reason (state_at w.lines e.number e.line home) home (access_news w e home) reason
 
 -- what follows the next line of a trace, if it is taken
 abbrev pub step : Watched → Event → Option Watched
-step w events.Access = Some (access_after w)
+step w (events.Access e) = access_after w e (home_of (w.lines e.line.0))
 step w (events.Granted sides pcrd) = credit_after w (granted w.options (table_in w) sides pcrd)
 step w (events.Returned sides pcrd) = credit_after w (returned (table_in w) sides pcrd)
 step w (events.Line e) = line_after w e (allowed w e)
@@ -156,6 +186,7 @@ step w (events.Line e) = line_after w e (allowed w e)
 abbrev pub IsFault : Watched → Event → WatchFault → Type 0
 IsFault w (events.Line e) (faults.Ids reason) = allowed w e ≡ Err reason
 IsFault w (events.Line e) (faults.Line reason) = (change : Change) × (allowed w e ≡ Ok change) × (is_line_reason (state_at w.lines e.number change.line e.sides.home) e.sides.home (news_in w e change) reason ≡ true)
+IsFault w (events.Access e) (faults.Line reason) = is_access_reason w e (home_of (w.lines e.line.0)) reason ≡ true
 IsFault w (events.Granted sides pcrd) (faults.Ids reason) = granted w.options (table_in w) sides pcrd ≡ Err reason
 IsFault w (events.Returned sides pcrd) (faults.Ids reason) = returned (table_in w) sides pcrd ≡ Err reason
 IsFault w e fault = ⊥
@@ -183,6 +214,21 @@ IsFlitWatched old new e change (Ok done) = line_after old e (Ok change) ≡ Some
 IsFlitWatched old new e change (Err (stops.Fault (faults.Ids reason))) = ⊥
 IsFlitWatched old new e change (Err (stops.Fault (faults.Line reason))) = IsLineRefused old new e change reason
 IsFlitWatched old new e change (Err stops.NoMemory) = Unit {0}
+
+-- so of a load or a store
+abbrev pub access_settled : Watched → AccessEvent → Option Agent → Option Aside → Watched
+access_settled w e agent mark = record w { requesters = with_requester agent e.requester w.requesters; counts = counts_access mark w.counts }
+
+pub record IsAccessRefused (old new : Watched) (e : AccessEvent) (home : NodeId) (reason : LineReason) : Type 0 where
+  pub refused : access_told old e home ≡ None
+  pub holds : is_line_reason (state_at old.lines e.number e.line home) home (access_news old e home) reason ≡ true
+  pub kept : new ≡ old
+
+abbrev pub IsAccessWatched : {A : Type 0} → Watched → Watched → AccessEvent → NodeId → Result A WatchStop → Type 0
+IsAccessWatched old new e home (Ok done) = access_told old e home ≡ Some new
+IsAccessWatched old new e home (Err (stops.Fault (faults.Ids reason))) = ⊥
+IsAccessWatched old new e home (Err (stops.Fault (faults.Line reason))) = IsAccessRefused old new e home reason
+IsAccessWatched old new e home (Err stops.NoMemory) = Unit {0}
 
 -- so of a credit
 pub record IsCreditRefused (old new : Watched) (booking : Result Booking IdReason) (reason : IdReason) : Type 0 where

@@ -9,7 +9,7 @@ use crate::steps::IdStep;
 use crate::tables::Part;
 use chi_flit::{Agent, Data, NO_DATA};
 use chi_observer::{Act, CacheFlit, Flit, Grant, HomeFlit};
-use chi_trace::{PcrdType, Resp};
+use chi_trace::{NodeId, PcrdType, Resp};
 
 /// What a flit of a line tells of it.
 /// Source: `docs/OBSERVER.md`, "A trace of many lines".
@@ -38,12 +38,24 @@ pub struct LineEvent {
     pub tells: Tells,
 }
 
+/// A load or a store of a processor.
+/// Source: `docs/OBSERVER.md`, "A trace of many lines".
+#[derive(Clone, Copy, Debug, PartialEq, Eq)]
+pub struct AccessEvent {
+    /// The number of its line in the trace, counted from 1.
+    pub number: usize,
+    /// Whose processor it is.
+    pub requester: NodeId,
+    pub line: CacheLine,
+    pub tells: Tells,
+}
+
 /// What a line of a trace is to a watch.
 /// Source: `docs/OBSERVER.md`, "A trace of many lines".
 #[derive(Clone, Copy, Debug, PartialEq, Eq)]
 pub enum Event {
     /// A load or a store of a processor.
-    Access,
+    Access(AccessEvent),
     /// A granted credit.
     Granted(Sides, PcrdType),
     /// A returned credit.

@@ -3,6 +3,7 @@
 //! Source: `docs/OBSERVER.md`, "A trace of many lines".
 #![tactic(auto)]
 
+mod accesses;
 mod beats;
 mod credits;
 mod events;
@@ -28,7 +29,7 @@ mod unknown;
 mod watch;
 
 pub use credits::{Account, CreditTypes};
-pub use events::{Event, LineEvent, Tells};
+pub use events::{AccessEvent, Event, LineEvent, Tells};
 pub use ids::{CacheLine, IdKey, OpenId, Purpose, Sides};
 pub use observations::observe;
 pub use progress::{Nobody, Progress};

@@ -3,7 +3,7 @@
 ghost use Rattle.std.specs.Prelude.{◌≡◌, None, nat_eq};
 ghost use Rattle.std.specs.Map.{lookup};
 ghost use Rattle.chi_observe.specs.declared.lines.LineStop.TheVariants as stops;
-ghost use Rattle.chi_observe.specs.Lines.{IsEndTold, IsFlitTold, IsLineTold, IsTold, begun_next, is_aside, is_put_aside, line_state, lines_in, opened_line, put_aside};
+ghost use Rattle.chi_observe.specs.Lines.{IsEndTold, IsFlitTold, IsLineTold, IsTold, begun_next, home_of, is_aside, is_put_aside, line_state, lines_in, opened_line, put_aside};
 
 use crate::ids::CacheLine;
 use crate::marks::Marks;
@@ -150,6 +150,16 @@ pub(crate) fn is_aside<A: Allocator>(lines: &LineTable<A>, line: CacheLine) -> b
     match lines.get(&line.0) {
         Some(seen) => seen.aside,
         None => false,
+    }
+}
+
+/// The home of the line's first flit; none of a line that no flit has touched.
+pub(crate) fn home_of<A: Allocator>(lines: &LineTable<A>, line: CacheLine) -> Option<NodeId>
+    ensures { result ≡ home_of (lines_in lines.now.entries line.0) }
+{
+    match lines.get(&line.0) {
+        Some(seen) => Some(seen.home),
+        None => None,
     }
 }
 

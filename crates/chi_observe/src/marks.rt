@@ -40,7 +40,9 @@ fn tells_copy(flit: Flit) -> bool
             | Act::Resend(_)
             | Act::SnpResp(_)
             | Act::CopyBackWrData(_)
-            | Act::NonCopyBackWrData => true,
+            | Act::NonCopyBackWrData
+            | Act::Load
+            | Act::Store => true,
             Act::CompAck => false,
         },
         Flit::Down(given) => match given.grant {
@@ -61,7 +63,7 @@ fn shown_by(flit: Flit) -> Option<Data>
             Act::CopyBackWrData(State::I) => None,
             Act::CopyBackWrData(_) => Some(sent.shown),
             Act::NonCopyBackWrData => Some(sent.shown),
-            Act::Request(_) | Act::Resend(_) | Act::CompAck => None,
+            Act::Request(_) | Act::Resend(_) | Act::CompAck | Act::Load | Act::Store => None,
         },
         Flit::Down(given) => match given.grant {
             Grant::CompData(_) => Some(given.shown),

@@ -96,7 +96,7 @@ impl<A: Allocator + Copy> Watch<A> {
     {
         let front = accepted_line(alloc, counts)?;
         let mut rest = String::new(alloc);
-        write_unjudged(&mut rest, counts)?;
+        write_counts(&mut rest, counts)?;
         self.write_open(&mut rest)?;
         joined(front, &rest)
     }
@@ -196,11 +196,11 @@ fn write_recent<A: Allocator>(text: &mut String<A>, flits: &[AnySeen]) -> Result
     Ok(())
 }
 
-/// Puts a line for what isn't judged behind the text: loads and stores, and lines that were set aside.
-fn write_unjudged<A: Allocator>(text: &mut String<A>, counts: Counts) -> Result<(), AllocError> {
+/// Puts lines for loads and stores, and for lines that were set aside, behind the text.
+fn write_counts<A: Allocator>(text: &mut String<A>, counts: Counts) -> Result<(), AllocError> {
     let (accesses, aside) = (counts.accesses, counts.aside);
     if accesses > 0 {
-        writeln!(text, "not judged: {accesses} loads and stores")?;
+        writeln!(text, "accepted {accesses} loads and stores")?;
     }
     if let Some(first) = counts.first_aside {
         let (line, number) = (LineName(first.line), first.number);

@@ -1,9 +1,9 @@
 //! What each line of a trace is to a watch: the one place where a trace's words become an observer's.
 
 ghost use Rattle.std.specs.Prelude.{◌≡◌, length};
-ghost use Rattle.chi_observe.specs.Seen.{answer_data_told, answer_told, completion_told, data_given, data_sent, down, event_of, kind_named, line_named, line_of, named_buffer, other_kind_named, other_snoop_named, profile_event, read_event, read_told, request_event, request_step, request_told, snoop_event, snoop_named, up, whole_written_told, written_told};
+ghost use Rattle.chi_observe.specs.Seen.{access_event, answer_data_told, answer_told, completion_told, data_given, data_sent, down, event_of, kind_named, line_named, line_of, named_buffer, other_kind_named, other_snoop_named, profile_event, read_event, read_told, request_event, request_step, request_told, snoop_event, snoop_named, up, whole_written_told, written_told};
 
-use crate::events::{Event, LineEvent, Tells};
+use crate::events::{AccessEvent, Event, LineEvent, Tells};
 use crate::ids::{CacheLine, Sides};
 use crate::steps::IdStep;
 use chi_flit::{NO_DATA, State};
@@ -268,6 +268,18 @@ fn down_in(seen: &AnySeen, transaction: &Transaction, step: IdStep, tells: Tells
     down(seen, transaction.target, transaction.address, step, tells)
 }
 
+/// What a load or a store is to a watch.
+fn access_event(seen: &AnySeen, address: Address, act: Act) -> Event
+    ensures { result ≡ access_event seen.now address act }
+{
+    Event::Access(AccessEvent {
+        number: seen.line,
+        requester: seen.source,
+        line: line_of(address),
+        tells: Tells::Sent(act, NO_DATA),
+    })
+}
+
 /// What a request is to a watch.
 fn request_event(seen: &AnySeen, kind: Kind, fields: RequestFields) -> Event
     ensures { result ≡ request_event seen.now kind fields }
@@ -409,8 +421,8 @@ fn profile_event(seen: &AnySeen, flit: &Flit) -> Event
             IdStep::WriteData(named_buffer(transaction), beat.there),
             written_told(*resp, beat),
         ),
-        Flit::Load { .. } => Event::Access,
-        Flit::Store { .. } => Event::Access,
+        Flit::Load { address, .. } => access_event(seen, *address, Act::Load),
+        Flit::Store { address, .. } => access_event(seen, *address, Act::Store),
     }
 }
 

@@ -1,8 +1,8 @@
 //! Why a flit isn't taken, in words. No clause says these texts: they are tested.
 
-use crate::events::{Event, LineEvent, Tells, flit_by};
+use crate::events::{AccessEvent, Event, LineEvent, Tells, flit_by};
 use crate::ids::{CacheLine, IdKey, OpenId, find_id};
-use crate::lines::LineSeen;
+use crate::lines::{LineSeen, home_of};
 use crate::marks::teller_of;
 use crate::names::{GIVEN, KeyName, LineName, NodeName, SENT, ToldName};
 use crate::nodes::agent_of;
@@ -420,9 +420,15 @@ fn key_of(reason: IdReason, event: &Event) -> Option<IdKey> {
 impl<A: Allocator> Watch<A> {
     /// The line of a flit, where it is known: that of its address, or of the open id that it names.
     pub(crate) fn place_of(&self, event: &Event) -> Option<CacheLine> {
-        let Event::Line(event) = event else {
-            return None;
-        };
+        match event {
+            Event::Line(event) => self.place_of_flit(event),
+            Event::Access(event) => Some(event.line),
+            Event::Granted(_, _) | Event::Returned(_, _) => None,
+        }
+    }
+
+    /// The line of a flit that has one.
+    fn place_of_flit(&self, event: &LineEvent) -> Option<CacheLine> {
         match (named_line(event), named_key(event)) {
             (Some(line), _) => Some(line),
             (None, Some(key)) => match find_id(&self.ids, key) {
@@ -444,6 +450,30 @@ impl<A: Allocator> Watch<A> {
         }
     }
 
+    /// The requester of a flit, and what its line's observer is told; none of a credit, and of what isn't judged.
+    fn judged_in(&self, event: &Event) -> Option<(NodeId, Flit)> {
+        match event {
+            Event::Line(event) => {
+                let agent = agent_of(&self.requesters, &self.homes, event.sides);
+                let flit = flit_by(self.told_by(event), agent)?;
+                Some((event.sides.requester, flit))
+            }
+            Event::Access(event) => {
+                let flit = flit_by(event.tells, self.agent_of_access(event))?;
+                Some((event.requester, flit))
+            }
+            Event::Granted(_, _) | Event::Returned(_, _) => None,
+        }
+    }
+
+    /// The agent of a load or a store; any of a line that no flit has touched, since nothing is told of them.
+    fn agent_of_access(&self, event: &AccessEvent) -> Option<Agent> {
+        match home_of(&self.lines, event.line) {
+            Some(home) => self.agent_at(event, home),
+            None => Some(Agent(0)),
+        }
+    }
+
     /// Puts why the line of a flit doesn't take it behind the text, and what it takes in its place.
     fn write_line_fault(
         &self,
@@ -451,12 +481,7 @@ impl<A: Allocator> Watch<A> {
         event: &Event,
         reason: Reason,
     ) -> Result<(), AllocError> {
-        let (Event::Line(flit), Some(line)) = (event, self.place_of(event)) else {
-            return Ok(());
-        };
-        let agent = agent_of(&self.requesters, &self.homes, flit.sides);
-        let node = flit.sides.requester;
-        let Some(flit) = flit_by(self.told_by(flit), agent) else {
+        let (Some((node, flit)), Some(line)) = (self.judged_in(event), self.place_of(event)) else {
             return Ok(());
         };
         let untouched = Observer::new();

@@ -8,7 +8,7 @@ ghost use Rattle.chi_observe.specs.Lines.{lines_in};
 ghost use Rattle.chi_observe.specs.Grants.{granted, returned};
 ghost use Rattle.chi_observe.specs.Steps.{ids_after};
 ghost use Rattle.chi_observe.specs.Tables.{table_of};
-ghost use Rattle.chi_observe.specs.Watched.{IsCreditWatched, IsFlitWatched, IsWatched, access_after, agent_in, allowed, booking_after, counts_after, counts_aside, counts_first, mark_of, nothing_watched, settled, table_in, watched};
+ghost use Rattle.chi_observe.specs.Watched.{IsCreditWatched, IsFlitWatched, IsWatched, agent_in, allowed, booking_after, counts_access, counts_after, counts_aside, counts_first, mark_of, nothing_watched, settled, table_in, watched};
 
 use crate::credits::{AccountTable, Booking, account_numbers};
 use crate::events::{Event, LineEvent, Tells, news_of};
@@ -124,6 +124,15 @@ impl Counts {
         }
     }
 
+    /// The counts behind a load or a store, which sets a line aside or doesn't; `None` where a number would pass 2^64.
+    pub(crate) fn with_access(self, aside: Option<Aside>) -> Option<Counts>
+        ensures { IfSome result (λ counts. counts ≡ counts_access aside self) }
+    {
+        let accesses = self.accesses.checked_add(1)?;
+        let counts = Counts { accesses, ..self };
+        counts.with_aside(aside)
+    }
+
     /// The counts behind a flit, or the last beat of one.
     fn with_flit(self, part: Part, aside: Option<Aside>, fresh: bool) -> Option<Counts>
         ensures { IfSome result (λ counts. counts ≡ counts_after part aside fresh self) }
@@ -137,7 +146,7 @@ impl Counts {
 }
 
 /// The line that this sets aside, if it isn't already.
-fn mark_of<A: Allocator>(
+pub(crate) fn mark_of<A: Allocator>(
     lines: &LineTable<A>,
     line: CacheLine,
     news: LineNews,
@@ -270,17 +279,6 @@ impl<A: Allocator> Watch<A> {
         }
     }
 
-    /// A load or a store is counted.
-    fn count_access(&mut self) -> Result<(), AllocError>
-        ensures { OnOk result (watched self.new ≡ access_after (watched self.old)) }
-    {
-        let Some(accesses) = self.counts.accesses.checked_add(1) else {
-            return Err(AllocError);
-        };
-        self.counts.accesses = accesses;
-        Ok(())
-    }
-
     /// A flit that books this is counted.
     fn keep_booking(&mut self, booking: &Booking) -> Result<(), AllocError>
         ensures { OnOk result
@@ -388,7 +386,7 @@ impl<A: Allocator + Copy> Watch<A> {
         ensures { IsWatched (watched self.old) (watched self.new) event.now result }
     {
         match event {
-            Event::Access => Ok(self.count_access()?),
+            Event::Access(event) => self.take_access(event),
             Event::Granted(sides, pcrd) => self.grant(*sides, *pcrd),
             Event::Returned(sides, pcrd) => self.give_back(*sides, *pcrd),
             Event::Line(event) => self.take_line(event),

@@ -3,15 +3,15 @@ use Rattle.std.proofs.Common.{◌≡◌, ◌≢◌, ℕ, ◌<◌, List, refl, sy
 use Rattle.std.specs.Prelude.{Bool, true, false, ◌&&◌, ◌||◌, not, Some, if◌then◌else◌}
 use Rattle.chi_observer.specs.declared.flits.Due.{Due}
 use Rattle.chi_observer.specs.declared.flits.CacheFlit.{CacheFlit}
-use Rattle.chi_observer.specs.Copies.{Held, holds_data, same, compatible}
+use Rattle.chi_observer.specs.Copies.{Held, holds_data, is_unique, same, compatible}
 use Rattle.chi_observer.specs.Copies.Copy.{Writing}
-use Rattle.chi_observer.specs.Rules.{may_be_free, lets_go, throws, loses, allows, acts, has_data, writes, tells_words, due_after}
+use Rattle.chi_observer.specs.Rules.{lets_go, throws, loses, stores, leaves_any, allows, acts, has_data, writes, tells_words, due_after}
 use Rattle.chi_observer.specs.Tables.{Known, reach, fresh, told_after, fits_told, renews}
 use Rattle.chi_observer.specs.Worlds.{World, Sends, put}
 use Rattle.chi_observer.specs.Observed.{Observed, Sound, Unstored, Meaning, fits, takes, differs, next}
 use Rattle.chi_observer.specs.Laws.{MeaningComes}
 use Rattle.chi_observer.proofs.Finite.{no, left, right, both, implies, follow}
-use Rattle.chi_observer.proofs.Facts.{rival, below, implied, or_here, or_there, no_data, turned, flip, beside_unique, beside_writing, throws_silent, copy_before, led_well, is_some_of, is_settled, backward, some_same}
+use Rattle.chi_observer.proofs.Facts.{rival, below, implied, or_here, or_there, no_data, turned, flip, beside_unique, beside_writing, any_silent, copy_before, led_well, is_some_of, is_settled, backward, some_same}
 use Rattle.chi_observer.proofs.Words.{or_words, was_known}
 use Rattle.chi_observer.proofs.Put.{here, there, split}
 use Rattle.chi_observer.proofs.Rewind.{Settled, rewind}
@@ -55,9 +55,13 @@ module _ (o : Observed) (f : CacheFlit) (w2 : World) (sound : Sound o) (low : f.
   abbrev lose : Bool
   lose = loses f.act x d was.copy
 
-  -- the value before: what is written without a copy, and what is behind a loss, is another
+  -- the value is any then
+  abbrev loose : Bool
+  loose = leaves_any f.act x d was.copy
+
+  -- the value before: what is written without a copy, and what is behind a loss or a store, is another
   abbrev last_before : List ℕ
-  last_before = if writes f.act then or_words o.home w2.last else (if lose then w2.home else w2.last)
+  last_before = if writes f.act then or_words o.home w2.last else (if loose then w2.home else w2.last)
 
   abbrev old : World
   old = record { state = put n was w2.state; words = put n last_before w2.words; last = last_before; home = if tells_words f.act then or_words o.home w2.last else w2.home }
@@ -94,11 +98,17 @@ module _ (o : Observed) (f : CacheFlit) (w2 : World) (sound : Sound o) (low : f.
   abbrev of_words : Bool
   of_words = implies (has_data f.act) (holds_data was.copy) && implies (writes f.act) (same was.copy Writing && not (holds_data s2.copy))
 
+  abbrev of_any : Bool
+  of_any = implies loose (is_unique was.copy)
+
+  abbrev of_store : Bool
+  of_store = implies lose (not (holds_data s2.copy)) && implies (stores f.act) (holds_data s2.copy)
+
   abbrev of_loss : Bool
-  of_loss = implies (r && throws f.act x) lose && implies lose (not (holds_data s2.copy))
+  of_loss = implies (r && throws f.act x) lose && (of_any && of_store)
 
   abbrev unseen : Bool
-  unseen = b || (r && not (has_data f.act || throws f.act x))
+  unseen = b || (r && not (has_data f.act || (throws f.act x || stores f.act)))
 
   led2 : (is_some_of (acts f.act x d was) s2 && (implies unseen (fresh d t was) && (of_words && of_loss))) ≡ true
   led2 = right (reach d t was) _ led
@@ -116,10 +126,33 @@ module _ (o : Observed) (f : CacheFlit) (w2 : World) (sound : Sound o) (low : f.
   led5 = right of_words _ (right (implies unseen (fresh d t was)) _ led3)
 
   thrown_lost : (r && throws f.act x) ≡ true → lose ≡ true
-  thrown_lost = follow (r && throws f.act x) lose (left _ (implies lose (not (holds_data s2.copy))) led5)
+  thrown_lost = follow (r && throws f.act x) lose (left _ (of_any && of_store) led5)
+
+  led6 : (of_any && of_store) ≡ true
+  led6 = right (implies (r && throws f.act x) lose) _ led5
+
+  any_unique : loose ≡ true → is_unique was.copy ≡ true
+  any_unique = follow loose _ (left of_any _ led6)
 
   lost_empty : lose ≡ true → holds_data s2.copy ≡ false
-  lost_empty e = turned _ (follow lose _ (right (implies (r && throws f.act x) lose) _ led5) e)
+  lost_empty e = turned _ (follow lose _ (left _ (implies (stores f.act) (holds_data s2.copy)) (right of_any _ led6)) e)
+
+  store_holds : stores f.act ≡ true → holds_data s2.copy ≡ true
+  store_holds = follow (stores f.act) _ (right (implies lose (not (holds_data s2.copy))) _ (right of_any _ led6))
+
+  not_lost : loose ≡ false → lose ≡ false
+  not_lost l = by lose (stores f.act) l
+    where
+      by : (p q : Bool) → (p || q) ≡ false → p ≡ false
+      by true q h = no (sym h)
+      by false q h = refl
+
+  not_stored : loose ≡ false → stores f.act ≡ false
+  not_stored l = by lose (stores f.act) l
+    where
+      by : (p q : Bool) → (p || q) ≡ false → q ≡ false
+      by true q h = no (sym h)
+      by false q h = h
 
   holding : has_data f.act ≡ true → holds_data was.copy ≡ true
   holding = follow (has_data f.act) _ (left _ (implies (writes f.act) (same was.copy Writing && not (holds_data s2.copy))) led4)
@@ -138,29 +171,29 @@ module _ (o : Observed) (f : CacheFlit) (w2 : World) (sound : Sound o) (low : f.
   tells_same : writes f.act ≡ false → tells_words f.act ≡ has_data f.act
   tells_same e = or_not (has_data f.act) (writes f.act) e
 
-  last_same : lose ≡ false → writes f.act ≡ false → last_before ≡ w2.last
-  last_same l e = ap (λ a. if a then or_words o.home w2.last else (if lose then w2.home else w2.last)) e ∙ ap (λ a. if a then w2.home else w2.last) l
+  last_same : loose ≡ false → writes f.act ≡ false → last_before ≡ w2.last
+  last_same l e = ap (λ a. if a then or_words o.home w2.last else (if loose then w2.home else w2.last)) e ∙ ap (λ a. if a then w2.home else w2.last) l
 
-  -- a copy that is thrown away isn't shown
-  lost_silent : lose ≡ true → tells_words f.act ≡ false
-  lost_silent l = throws_silent f.act x (left _ _ l)
+  -- what is any isn't shown
+  loose_silent : loose ≡ true → tells_words f.act ≡ false
+  loose_silent l = any_silent f.act x d was.copy l
 
-  lost_quiet : lose ≡ true → writes f.act ≡ false
-  lost_quiet l = no_part (has_data f.act) (writes f.act) (lost_silent l)
+  loose_quiet : loose ≡ true → writes f.act ≡ false
+  loose_quiet l = no_part (has_data f.act) (writes f.act) (loose_silent l)
     where
       no_part : (p q : Bool) → (p || q) ≡ false → q ≡ false
       no_part true q h = no (sym h)
       no_part false q h = h
 
-  data_kept : has_data f.act ≡ true → lose ≡ false
-  data_kept h = by lose (λ l. sym (lost_silent l) ∙ or_here (has_data f.act) _ h)
+  data_kept : has_data f.act ≡ true → loose ≡ false
+  data_kept h = by loose (λ l. sym (loose_silent l) ∙ or_here (has_data f.act) _ h)
     where
       by : (p : Bool) → (p ≡ true → false ≡ true) → p ≡ false
       by true h = no (h refl)
       by false h = refl
 
-  last_lost : lose ≡ true → last_before ≡ w2.home
-  last_lost l = ap (λ a. if a then or_words o.home w2.last else (if lose then w2.home else w2.last)) (lost_quiet l) ∙ ap (λ a. if a then w2.home else w2.last) l
+  last_loose : loose ≡ true → last_before ≡ w2.home
+  last_loose l = ap (λ a. if a then or_words o.home w2.last else (if loose then w2.home else w2.last)) (loose_quiet l) ∙ ap (λ a. if a then w2.home else w2.last) l
 
   else_reach : (k : ℕ) → k ≢ n → k < 32 → reach (o.public.due k) (o.told k) (w2.state k) ≡ true
   else_reach k h lk = subst (λ x. reach x (o.told k) (w2.state k) ≡ true) (there n d' o.public.due k h)
@@ -183,18 +216,18 @@ module _ (o : Observed) (f : CacheFlit) (w2 : World) (sound : Sound o) (low : f.
   shown_is : Quiet → tells_words f.act ≡ true → w2.last ≡ f.shown
   shown_is u e = now u (ap (λ b. if b then true else (if r then false else o.current)) e) ∙ home_shown e
 
-  copy_current : lose ≡ false → writes f.act ≡ false → o.current ≡ true → fresh d t was ≡ false → Quiet → (a y z g : Bool) → has_data f.act ≡ a → b ≡ y → r ≡ z → throws f.act x ≡ g → w2.last ≡ old.home
-  copy_current l k c h u true true z g da by rz tg = no (sym h ∙ stored (ap (λ q. q || (r && not (has_data f.act || throws f.act x))) by))
+  copy_current : loose ≡ false → writes f.act ≡ false → o.current ≡ true → fresh d t was ≡ false → Quiet → (a y z g : Bool) → has_data f.act ≡ a → b ≡ y → r ≡ z → throws f.act x ≡ g → w2.last ≡ old.home
+  copy_current l k c h u true true z g da by rz tg = no (sym h ∙ stored (ap (λ q. q || (r && not (has_data f.act || (throws f.act x || stores f.act)))) by))
   copy_current l k c h u true false z g da by rz tg = was_known o.current o.home f.shown w2.last (sym (ap (λ q. q && (o.current && not (fits o.home f.shown))) da) ∙ by) c (shown_is u (tells_same k ∙ da))
       ∙ sym (ap (λ q. if q then or_words o.home w2.last else w2.home) (tells_same k ∙ da))
-  copy_current l k c h u false y true true da by rz tg = no (sym l ∙ thrown_lost (both r _ rz tg))
-  copy_current l k c h u false y true false da by rz tg = no (sym h ∙ stored (or_there b _ (both r _ rz (flip _ (λ i. da i || tg i)))))
+  copy_current l k c h u false y true true da by rz tg = no (sym (not_lost l) ∙ thrown_lost (both r _ rz tg))
+  copy_current l k c h u false y true false da by rz tg = no (sym h ∙ stored (or_there b _ (both r _ rz (flip _ (λ i. da i || (tg i || not_stored l i))))))
   copy_current l k c h u false y false g da by rz tg = now u (ap (λ q. if q then true else (if r then false else o.current)) (tells_same k ∙ da) ∙ ap (λ q. if q then false else o.current) rz ∙ c)
       ∙ sym (ap (λ q. if q then or_words o.home w2.last else w2.home) (tells_same k ∙ da))
 
-  old_current : o.current ≡ true → fresh d t was ≡ false → Quiet → (l a : Bool) → lose ≡ l → writes f.act ≡ a → old.last ≡ old.home
-  old_current c h u true a l e = last_lost l ∙ sym (ap (λ q. if q then or_words o.home w2.last else w2.home) (lost_silent l))
-  old_current c h u false true l e = ap (λ q. if q then or_words o.home w2.last else (if lose then w2.home else w2.last)) e ∙ sym (ap (λ q. if q then or_words o.home w2.last else w2.home) (or_there (has_data f.act) _ e))
+  old_current : o.current ≡ true → fresh d t was ≡ false → Quiet → (l a : Bool) → loose ≡ l → writes f.act ≡ a → old.last ≡ old.home
+  old_current c h u true a l e = last_loose l ∙ sym (ap (λ q. if q then or_words o.home w2.last else w2.home) (loose_silent l))
+  old_current c h u false true l e = ap (λ q. if q then or_words o.home w2.last else (if loose then w2.home else w2.last)) e ∙ sym (ap (λ q. if q then or_words o.home w2.last else w2.home) (or_there (has_data f.act) _ e))
   old_current c h u false false l e = last_same l e ∙ copy_current l e c h u (has_data f.act) b r (throws f.act x) refl refl refl refl
 
   old_home : (v : List ℕ) → o.home ≡ Some v → (a : Bool) → tells_words f.act ≡ a → old.home ≡ v
@@ -205,8 +238,8 @@ module _ (o : Observed) (f : CacheFlit) (w2 : World) (sound : Sound o) (low : f.
   sent_home true da = home_shown da ∙ sym (ap (λ b. if b then f.shown else old.home) da)
   sent_home false da = sym (ap (λ b. if b then f.shown else old.home) da ∙ ap (λ b. if b then or_words o.home w2.last else w2.home) da)
 
-  else_words : (k : ℕ) → k ≢ n → k < 32 → holds_data (w2.state k).copy ≡ true → (l a : Bool) → lose ≡ l → writes f.act ≡ a → w2.words k ≡ last_before
-  else_words k h lk v true a l e = no (sym (beside_unique was.copy (w2.state k).copy (right (may_be_free d) _ (right (throws f.act x) _ l)) (beside k h lk)) ∙ v)
+  else_words : (k : ℕ) → k ≢ n → k < 32 → holds_data (w2.state k).copy ≡ true → (l a : Bool) → loose ≡ l → writes f.act ≡ a → w2.words k ≡ last_before
+  else_words k h lk v true a l e = no (sym (beside_unique was.copy (w2.state k).copy (any_unique l) (beside k h lk)) ∙ v)
   else_words k h lk v false true l e = no (sym (beside_writing was.copy (w2.state k).copy (left _ _ (whole e)) (beside k h lk)) ∙ v)
   else_words k h lk v false false l e = st.undone.words k lk v ∙ sym (last_same l e)
 
@@ -221,9 +254,9 @@ module _ (o : Observed) (f : CacheFlit) (w2 : World) (sound : Sound o) (low : f.
         (λ k h lk. subst (λ x. reach (o.public.due k) (o.told k) x ≡ true) (sym (there n was w2.state k h)) (else_reach k h lk));
     words = split (λ k. k < 32 → holds_data (old.state k).copy ≡ true → old.words k ≡ last_before) n
         (λ _ _. here n last_before w2.words)
-        (λ k h lk v. there n last_before w2.words k h ∙ else_words k h lk (subst (λ (x : Held). holds_data x.copy ≡ true) (there n was w2.state k h) v) lose (writes f.act) refl refl);
+        (λ k h lk v. there n last_before w2.words k h ∙ else_words k h lk (subst (λ (x : Held). holds_data x.copy ≡ true) (there n was w2.state k h) v) loose (writes f.act) refl refl);
     home = λ v e. old_home v e (tells_words f.act) refl;
-    current = λ c u. old_current c (subst (λ z. fresh d t z ≡ false) (here n was w2.state) (u n low)) (quiet_of u) lose (writes f.act) refl refl;
+    current = λ c u. old_current c (subst (λ z. fresh d t z ≡ false) (here n was w2.state) (u n low)) (quiet_of u) loose (writes f.act) refl refl;
   }
 
   rivals : tells_words f.act ≡ true → Quiet
@@ -235,25 +268,33 @@ module _ (o : Observed) (f : CacheFlit) (w2 : World) (sound : Sound o) (low : f.
       let tells : tells_words f.act ≡ true = or_here _ _ e in
       sym (shown_is (rivals tells) tells) ∙ sym (last_same (data_kept e) (not_whole e (writes f.act) refl))
 
-  sent_last : lose ≡ false → (a : Bool) → writes f.act ≡ a → w2.last ≡ (if writes f.act then f.shown else last_before)
+  sent_last : loose ≡ false → (a : Bool) → writes f.act ≡ a → w2.last ≡ (if writes f.act then f.shown else last_before)
   sent_last l true e =
       let tells : tells_words f.act ≡ true = or_there (has_data f.act) _ e in
       shown_is (rivals tells) tells ∙ sym (ap (λ z. if z then f.shown else last_before) e)
   sent_last l false e = sym (ap (λ z. if z then f.shown else last_before) e ∙ last_same l e)
 
-  own_words : holds_data s2.copy ≡ true → (l a : Bool) → lose ≡ l → writes f.act ≡ a → w2.words n ≡ last_before
-  own_words v true a l e = no (sym (lost_empty l) ∙ v)
-  own_words v false true l e = no (sym (turned _ (right (same was.copy Writing) _ (whole e))) ∙ v)
-  own_words v false false l e = st.undone.words n low v ∙ sym (last_same l e)
+  loss_of : loose ≡ true → stores f.act ≡ false → lose ≡ true
+  loss_of l q = by lose (stores f.act) l q
+    where
+      by : (p q : Bool) → (p || q) ≡ true → q ≡ false → p ≡ true
+      by true q h e = refl
+      by false q h e = no (sym e ∙ h)
+
+  own_words : holds_data s2.copy ≡ true → stores f.act ≡ false → (l a : Bool) → loose ≡ l → writes f.act ≡ a → w2.words n ≡ last_before
+  own_words v q true a l e = no (sym (lost_empty (loss_of l q)) ∙ v)
+  own_words v q false true l e = no (sym (turned _ (right (same was.copy Writing) _ (whole e))) ∙ v)
+  own_words v q false false l e = st.undone.words n low v ∙ sym (last_same l e)
 
   old_sends : Sends o.public f old w2
   old_sends = record {
     allowed = left _ _ take;
     act = subst (λ z. acts f.act x d z ≡ Some s2) (sym (here n was w2.state)) (some_same (acts f.act x d was) s2 (left _ _ led2));
     shown = λ e. copy_shown e ∙ sym (here n last_before w2.words);
-    last = λ l. sent_last (ap (λ (z : Held). loses f.act x d z.copy) (sym (here n was w2.state)) ∙ l) (writes f.act) refl;
+    last = λ l. sent_last (ap (λ (z : Held). leaves_any f.act x d z.copy) (sym (here n was w2.state)) ∙ l) (writes f.act) refl;
     home = sent_home (tells_words f.act) refl;
-    words = λ v. own_words v lose (writes f.act) refl refl ∙ sym (here n last_before w2.words);
+    words = λ v q. own_words v q loose (writes f.act) refl refl ∙ sym (here n last_before w2.words);
+    stored = λ q. st.undone.words n low (store_holds q);
     others = record { state = λ k lk h. sym (there n was w2.state k h); words = λ k lk h. sym (there n last_before w2.words k h) };
   }
 
@@ -261,8 +302,8 @@ module _ (o : Observed) (f : CacheFlit) (w2 : World) (sound : Sound o) (low : f.
 abbrev pub world_before : Observed → CacheFlit → World → World
 world_before o f w2 =
     let was : Held = copy_before f.act (o.public.due f.agent.0) (o.told f.agent.0) (w2.state f.agent.0) in
-    let lose : Bool = loses f.act (lets_go (o.public.snooped f.agent.0)) (o.public.due f.agent.0) was.copy in
-    let value : List ℕ = if writes f.act then or_words o.home w2.last else (if lose then w2.home else w2.last) in
+    let loose : Bool = leaves_any f.act (lets_go (o.public.snooped f.agent.0)) (o.public.due f.agent.0) was.copy in
+    let value : List ℕ = if writes f.act then or_words o.home w2.last else (if loose then w2.home else w2.last) in
     record {
       state = put f.agent.0 was w2.state;
       words = put f.agent.0 value w2.words;

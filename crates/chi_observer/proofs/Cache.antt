@@ -3,17 +3,17 @@ use Rattle.std.proofs.Common.{rules, arith, ◌≡◌, ◌≢◌, ℕ, ◌<◌, 
 use Rattle.std.specs.Prelude.{Bool, true, false, ◌&&◌, ◌||◌, not, Some, if◌then◌else◌}
 use Rattle.chi_observer.specs.declared.flits.Due.{Due}
 use Rattle.chi_observer.specs.declared.flits.CacheFlit.{CacheFlit}
-use Rattle.chi_observer.specs.Copies.{Copy, Held, holds_data, same}
+use Rattle.chi_observer.specs.Copies.{Copy, Held, holds_data, is_unique, same}
 use Rattle.chi_observer.specs.Copies.Copy.{Writing}
-use Rattle.chi_observer.specs.Rules.{may_be_free, lets_go, throws, loses, has_data, writes, tells_words, due_after}
+use Rattle.chi_observer.specs.Rules.{lets_go, loses, looks, stores, leaves_any, has_data, writes, tells_words, due_after}
 use Rattle.chi_observer.specs.Tables.{Known, may, reach, fresh, told_after, fits_told, renews}
 use Rattle.chi_observer.specs.Worlds.{World, Clean, Sends}
 use Rattle.chi_observer.specs.Observed.{Observed, Sound, Unstored, Meaning, fits, takes, differs, next}
 use Rattle.chi_observer.specs.Laws.{MeaningIsCoherent, CacheFlitsAreTaken, CacheFlitsLead}
 use Rattle.chi_observer.proofs.Finite.{no, left, right, both, implies, follow}
-use Rattle.chi_observer.proofs.Facts.{surely_dirty, unstored_clean, sent_data, sent_whole, taken_well, forward, below, rival, or_here, or_there, beside_unique, throws_silent, beside_writing, turned, flip, implied}
+use Rattle.chi_observer.proofs.Facts.{surely_dirty, unstored_clean, sent_data, sent_whole, taken_well, forward, below, rival, or_here, or_there, and_false, contrary, one_of, beside_unique, any_silent, data_looks, beside_writing, turned, flip, implied}
 use Rattle.chi_observer.proofs.Words.{known_fits, shown_fits, home_is, current_is}
-use Rattle.chi_observer.proofs.Put.{here, split, everywhere, at_else}
+use Rattle.chi_observer.proofs.Put.{here, split, everywhere, at_it, at_else}
 
 cleanly_by : (o : Observed) (w : World) → Sound o → Meaning o w → (c : Bool) → o.current ≡ c → o.public.thrown ≡ false → Clean w → w.home ≡ w.last
 cleanly_by o w sound m true c t h = sym (m.current c (λ k lk. unstored_clean (o.public.due k) (o.told k) (w.state k) (h k lk)))
@@ -62,6 +62,10 @@ module _ (o : Observed) (f : CacheFlit) (w w' : World) (sound : Sound o) (low : 
   abbrev lose : Bool
   lose = loses f.act x d s.copy
 
+  -- the value is any then
+  abbrev loose : Bool
+  loose = leaves_any f.act x d s.copy
+
   abbrev d' : Due
   d' = due_after f.act d
 
@@ -96,58 +100,96 @@ module _ (o : Observed) (f : CacheFlit) (w w' : World) (sound : Sound o) (low : 
   fitting : fits_told f.act x d t ≡ true
   fitting = left _ _ facts
 
-  facts2 : (implies (not r) (not (fresh d t s)) && (implies (holds_data s'.copy) (holds_data s.copy) && implies lose (r && not (holds_data s'.copy)))) ≡ true
-  facts2 = right (reach d' t' s' && may t'.told s'.copy) _ (right (fits_told f.act x d t) _ facts)
+  -- a load leaves open that there was a store, and then it is open still
+  abbrev open_still : Bool
+  open_still = looks f.act && fresh d' t' s'
+
+  abbrev of_stores : Bool
+  of_stores = implies (not r) (implies (fresh d t s) open_still)
+
+  abbrev of_data : Bool
+  of_data = implies (holds_data s'.copy) (holds_data s.copy || stores f.act)
+
+  abbrev of_any : Bool
+  of_any = implies loose (r && is_unique s.copy)
+
+  abbrev of_loss : Bool
+  of_loss = implies lose (not (holds_data s'.copy))
+
+  abbrev of_told : Bool
+  of_told = reach d' t' s' && implies (not (looks f.act)) (may t'.told s'.copy)
+
+  told_well : of_told ≡ true
+  told_well = left of_told _ (right (fits_told f.act x d t) _ facts)
+
+  facts2 : (of_stores && (of_data && (of_any && of_loss))) ≡ true
+  facts2 = right of_told _ (right (fits_told f.act x d t) _ facts)
+
+  facts3 : (of_data && (of_any && of_loss)) ≡ true
+  facts3 = right of_stores _ facts2
+
+  facts4 : (of_any && of_loss) ≡ true
+  facts4 = right of_data _ facts3
 
   reached : reach d' t' s' ≡ true
-  reached = left (reach d' t' s') _ (left (reach d' t' s' && may t'.told s'.copy) _ (right (fits_told f.act x d t) _ facts))
+  reached = left _ _ told_well
 
-  -- and is as it is told
-  pub settled_sent : may ((next o f).told n).told s'.copy ≡ true
-  settled_sent = subst (λ (x : Known). may x.told s'.copy ≡ true) (sym (here n t' o.told)) (right (reach d' t' s') _ (left (reach d' t' s' && may t'.told s'.copy) _ (right (fits_told f.act x d t) _ facts)))
+  -- and is as it is told, but behind a load
+  pub settled_sent : looks f.act ≡ false → may ((next o f).told n).told s'.copy ≡ true
+  settled_sent e = subst (λ (x : Known). may x.told s'.copy ≡ true) (sym (here n t' o.told)) (follow (not (looks f.act)) _ (right (reach d' t' s') _ told_well) (flip _ e))
 
-  still : r ≡ false → fresh d t s ≡ false
-  still e = turned (fresh d t s) (follow (not r) _ (left _ (implies (holds_data s'.copy) (holds_data s.copy) && implies lose (r && not (holds_data s'.copy))) facts2) (flip r e))
+  still : open_still ≡ false → r ≡ false → fresh d t s ≡ false
+  still q e = contrary (fresh d t s) open_still (follow (not r) _ (left of_stores _ facts2) (flip r e)) q
 
-  facts3 : (implies (holds_data s'.copy) (holds_data s.copy) && implies lose (r && not (holds_data s'.copy))) ≡ true
-  facts3 = right (implies (not r) (not (fresh d t s))) _ facts2
+  had_data : stores f.act ≡ false → holds_data s'.copy ≡ true → holds_data s.copy ≡ true
+  had_data q v = one_of (holds_data s.copy) (stores f.act) (follow (holds_data s'.copy) _ (left of_data _ facts3) v) q
 
-  had_data : holds_data s'.copy ≡ true → holds_data s.copy ≡ true
-  had_data = follow (holds_data s'.copy) (holds_data s.copy) (left _ (implies lose (r && not (holds_data s'.copy))) facts3)
+  -- where the value is any there may have been a store
+  any_well : loose ≡ true → (r && is_unique s.copy) ≡ true
+  any_well = follow loose _ (left of_any _ facts4)
 
-  -- where the value is lost there may have been a store, and no data are left
-  lost_well : lose ≡ true → (r && not (holds_data s'.copy)) ≡ true
-  lost_well = follow lose _ (right (implies (holds_data s'.copy) (holds_data s.copy)) _ facts3)
+  -- where it is lost no data are left
+  lost_empty : lose ≡ true → holds_data s'.copy ≡ false
+  lost_empty e = turned _ (follow lose _ (right of_any _ facts4) e)
 
-  lone_lost : lose ≡ true → (k : ℕ) → k ≢ n → k < 32 → holds_data (w.state k).copy ≡ false
-  lone_lost e k h lk = beside_unique s.copy (w.state k).copy (right (may_be_free d) _ (right (throws f.act x) _ e))
+  lone_any : loose ≡ true → (k : ℕ) → k ≢ n → k < 32 → holds_data (w.state k).copy ≡ false
+  lone_any e k h lk = beside_unique s.copy (w.state k).copy (right r _ (any_well e))
       (below d (o.public.due k) t (o.told k) s (w.state k) (m.told n low) (m.told k lk) (sound.pairs n k low lk (λ z. h (sym z))))
 
-  lost_unknown : lose ≡ true → (next o f).current ≡ false
-  lost_unknown e = ap (λ b. if b then true else (if r then false else o.current)) (throws_silent f.act x (left _ _ e)) ∙ ap (λ b. if b then false else o.current) (left _ _ (lost_well e))
+  any_unknown : loose ≡ true → (next o f).current ≡ false
+  any_unknown e = ap (λ b. if b then true else (if r then false else o.current)) (any_silent f.act x d s.copy e) ∙ ap (λ b. if b then false else o.current) (left _ _ (any_well e))
+
+  not_any : lose ≡ false → stores f.act ≡ false → loose ≡ false
+  not_any l q = (λ i. l i || q i)
+
+  data_closed : has_data f.act ≡ true → open_still ≡ false
+  data_closed h = ap (λ b. b && fresh d' t' s') (data_looks f.act h)
 
   pub taken_here : takes o f ≡ true
-  taken_here = both _ _ send.allowed (both (fits_told f.act x d t) _ fitting (shown_fits (has_data f.act) r o.current o.home f.shown (λ h e c u k. known_is h (still e) c u k)))
+  taken_here = both _ _ send.allowed (both (fits_told f.act x d t) _ fitting (shown_fits (has_data f.act) r o.current o.home f.shown (λ h e c u k. known_is h (still (data_closed h) e) c u k)))
 
   -- nobody else has stored
   pub Calm : Type 0
   Calm = (k : ℕ) → k ≢ n → k < 32 → fresh (o.public.due k) (o.told k) (w.state k) ≡ false
 
-  before : r ≡ false → Calm → Unstored o w
+  before : r ≡ false → open_still ≡ false → Calm → Unstored o w
   unfolding Calm
-  before e u = split (λ k. k < 32 → fresh (o.public.due k) (o.told k) (w.state k) ≡ false) n (λ _. still e) u
+  before e q u = split (λ k. k < 32 → fresh (o.public.due k) (o.told k) (w.state k) ≡ false) n (λ _. still q e) u
+
+  closed_of : Unstored (next o f) w' → open_still ≡ false
+  closed_of u = and_false (looks f.act) (fresh d' t' s') (at_it (λ k x y. k < 32 → fresh x y (w'.state k) ≡ false) n d' t' o.public.due o.told u low)
 
   calm_of : Unstored (next o f) w' → Calm
   unfolding Calm
   calm_of u k h lk = subst (λ x. fresh (o.public.due k) (o.told k) x ≡ false) (send.others.state k lk h)
       (at_else (λ k x y. k < 32 → fresh x y (w'.state k) ≡ false) n d' t' o.public.due o.told u k h lk)
 
-  last_by : lose ≡ false → writes f.act ≡ false → w'.last ≡ w.last
+  last_by : loose ≡ false → writes f.act ≡ false → w'.last ≡ w.last
   last_by l e = send.last l ∙ ap (λ b. if b then f.shown else w.last) e
 
-  -- a copy that is shown isn't lost
-  kept_by : tells_words f.act ≡ true → lose ≡ false
-  kept_by h = by lose (λ l. sym (throws_silent f.act x (left _ _ l)) ∙ h)
+  -- what is shown is known
+  kept_by : tells_words f.act ≡ true → loose ≡ false
+  kept_by h = by loose (λ l. sym (any_silent f.act x d s.copy l) ∙ h)
     where
       by : (p : Bool) → (p ≡ true → false ≡ true) → p ≡ false
       by true h = no (h refl)
@@ -158,21 +200,22 @@ module _ (o : Observed) (f : CacheFlit) (w w' : World) (sound : Sound o) (low : 
   alone_by e k h lk = beside_writing s.copy (w.state k).copy (sent_whole f.act x d s s' send.act e)
       (below d (o.public.due k) t (o.told k) s (w.state k) (m.told n low) (m.told k lk) (sound.pairs n k low lk (λ x. h (sym x))))
 
-  here_words : (l b : Bool) → lose ≡ l → writes f.act ≡ b → holds_data s'.copy ≡ true → w'.words n ≡ w'.last
-  here_words true b l e v = no (sym (turned _ (right r _ (lost_well l))) ∙ v)
-  here_words false true l e v = no (sym (writing_empty s.copy (sent_whole f.act x d s s' send.act e)) ∙ had_data v)
-  here_words false false l e v = send.words v ∙ m.words n low (had_data v) ∙ sym (last_by l e)
+  here_words : (q l b : Bool) → stores f.act ≡ q → lose ≡ l → writes f.act ≡ b → holds_data s'.copy ≡ true → w'.words n ≡ w'.last
+  here_words true l b q lost e v = send.stored q
+  here_words false true b q lost e v = no (sym (lost_empty lost) ∙ v)
+  here_words false false true q lost e v = no (sym (writing_empty s.copy (sent_whole f.act x d s s' send.act e)) ∙ had_data q v)
+  here_words false false false q lost e v = send.words v q ∙ m.words n low (had_data q v) ∙ sym (last_by (not_any lost q) e)
 
-  else_words : (k : ℕ) → k ≢ n → k < 32 → holds_data (w.state k).copy ≡ true → (l b : Bool) → lose ≡ l → writes f.act ≡ b → w.words k ≡ w'.last
-  else_words k h lk v true b l e = no (sym (lone_lost l k h lk) ∙ v)
+  else_words : (k : ℕ) → k ≢ n → k < 32 → holds_data (w.state k).copy ≡ true → (l b : Bool) → loose ≡ l → writes f.act ≡ b → w.words k ≡ w'.last
+  else_words k h lk v true b l e = no (sym (lone_any l k h lk) ∙ v)
   else_words k h lk v false true l e = no (sym (alone_by e k h lk) ∙ v)
   else_words k h lk v false false l e = m.words k lk v ∙ sym (last_by l e)
 
-  current_after_it : (next o f).current ≡ true → Calm → (l b : Bool) → lose ≡ l → writes f.act ≡ b → w'.last ≡ w'.home
-  current_after_it c u true b l e = no (sym (lost_unknown l) ∙ c)
-  current_after_it c u false true l e = send.last l ∙ ap (λ b. if b then f.shown else w.last) e ∙ sym (send.home ∙ ap (λ b. if b then f.shown else w.home) (or_there (has_data f.act) _ e))
-  current_after_it c u false false l e = last_by l e
-      ∙ current_is (has_data f.act) r o.current f.shown w.home w.last (λ h. sym (shown_last h)) (λ e c. m.current c (before e u)) (sym (ap (λ b. if b then true else (if r then false else o.current)) (tells_same e)) ∙ c)
+  current_after_it : (next o f).current ≡ true → open_still ≡ false → Calm → (l b : Bool) → loose ≡ l → writes f.act ≡ b → w'.last ≡ w'.home
+  current_after_it c q u true b l e = no (sym (any_unknown l) ∙ c)
+  current_after_it c q u false true l e = send.last l ∙ ap (λ b. if b then f.shown else w.last) e ∙ sym (send.home ∙ ap (λ b. if b then f.shown else w.home) (or_there (has_data f.act) _ e))
+  current_after_it c q u false false l e = last_by l e
+      ∙ current_is (has_data f.act) r o.current f.shown w.home w.last (λ h. sym (shown_last h)) (λ e c. m.current c (before e q u)) (sym (ap (λ b. if b then true else (if r then false else o.current)) (tells_same e)) ∙ c)
       ∙ sym (send.home ∙ ap (λ b. if b then f.shown else w.home) (tells_same e))
     where
       tells_same : writes f.act ≡ false → tells_words f.act ≡ has_data f.act
@@ -183,10 +226,10 @@ module _ (o : Observed) (f : CacheFlit) (w w' : World) (sound : Sound o) (low : 
     told = everywhere (λ k x y. k < 32 → reach x y (w'.state k) ≡ true) n d' t' o.public.due o.told (λ _. reached)
         (λ k h lk. subst (λ x. reach (o.public.due k) (o.told k) x ≡ true) (sym (send.others.state k lk h)) (m.told k lk));
     words = split (λ k. k < 32 → holds_data (w'.state k).copy ≡ true → w'.words k ≡ w'.last) n
-        (λ lk v. here_words lose (writes f.act) refl refl v)
-        (λ k h lk v. send.others.words k lk h ∙ else_words k h lk (subst (λ (x : Held). holds_data x.copy ≡ true) (send.others.state k lk h) v) lose (writes f.act) refl refl);
+        (λ lk v. here_words (stores f.act) lose (writes f.act) refl refl refl v)
+        (λ k h lk v. send.others.words k lk h ∙ else_words k h lk (subst (λ (x : Held). holds_data x.copy ≡ true) (send.others.state k lk h) v) loose (writes f.act) refl refl);
     home = λ v h. send.home ∙ home_is (tells_words f.act) f.shown w.home o.home v m.home h;
-    current = λ c u. current_after_it c (calm_of u) lose (writes f.act) refl refl;
+    current = λ c u. current_after_it c (closed_of u) (calm_of u) loose (writes f.act) refl refl;
   }
 
   -- words that are told are the value
@@ -197,9 +240,9 @@ module _ (o : Observed) (f : CacheFlit) (w w' : World) (sound : Sound o) (low : 
   pub told_here : tells_words f.act ≡ true → w'.last ≡ w'.home
   told_here h = told_by h (writes f.act) refl
 
-  pub last_here : (next o f).current ≡ true → ((k : ℕ) → k ≢ n → k < 32 → fresh (o.public.due k) (o.told k) (w.state k) ≡ false) → w'.last ≡ w'.home
+  pub last_here : looks f.act ≡ false → (next o f).current ≡ true → ((k : ℕ) → k ≢ n → k < 32 → fresh (o.public.due k) (o.told k) (w.state k) ≡ false) → w'.last ≡ w'.home
   unfolding Calm
-  last_here c u = current_after_it c u lose (writes f.act) refl refl
+  last_here q c u = current_after_it c (ap (λ b. b && fresh d' t' s') q) u loose (writes f.act) refl refl
 
 pub taken : CacheFlitsAreTaken
 taken o f w w' sound low m send = taken_here o f w w' sound low m send

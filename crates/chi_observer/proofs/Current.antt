@@ -1,6 +1,7 @@
 -- Right behind a flit the home's own copy is surely the value last stored where that is kept, and else in some world not.
 use Rattle.std.proofs.Common.{◌≡◌, ◌≢◌, ℕ, ◌<◌, List, [], ◌∷◌, refl, sym, ap, subst, ◌∙◌}
 use Rattle.std.specs.Prelude.{Bool, true, false, ◌&&◌, ◌||◌, ◌==◌, not, if◌then◌else◌}
+use Rattle.std.proofs.lemmas.Bool.{eqb-true}
 use Rattle.chi_flit.specs.declared.numbers.Agent.{Agent}
 use Rattle.chi_observer.specs.declared.kinds.Snoop.{Snoop}
 use Rattle.chi_observer.specs.declared.flits.Due.{Due}
@@ -10,9 +11,9 @@ use Rattle.chi_observer.specs.declared.flits.CacheFlit.{CacheFlit}
 use Rattle.chi_observer.specs.declared.flits.HomeFlit.{HomeFlit}
 use Rattle.chi_observer.specs.declared.flits.Flit.{Flit}
 use Rattle.chi_observer.specs.declared.flits.Flit.TheVariants.{Up, Down}
-use Rattle.chi_observer.specs.Copies.{Held, is_unique}
+use Rattle.chi_observer.specs.Copies.{Held, holds_data, is_unique}
 use Rattle.chi_observer.specs.Copies.Copy.{UniqueDirty}
-use Rattle.chi_observer.specs.Rules.{may_be_free, is_resending, needs_quiet, granted, makes, settles, due_granted}
+use Rattle.chi_observer.specs.Rules.{may_be_free, is_resending, looks, needs_quiet, granted, makes, settles, due_granted}
 use Rattle.chi_observer.specs.Tables.{Known, most, reach, fresh, told_granted}
 use Rattle.chi_observer.specs.Worlds.{World, Sends, Gives, put}
 use Rattle.chi_observer.specs.Observed.{Observed, Unstored, Meaning, next, next_home}
@@ -20,13 +21,14 @@ use Rattle.chi_observer.specs.Moments.{tells_of, may_be_stored, home_is_last}
 use Rattle.chi_observer.specs.Runs.{seen, Behind, HomeIsLast, Accepted}
 use Rattle.chi_observer.proofs.Finite.{no, left, right, both, implies, follow}
 use Rattle.chi_observer.proofs.Spots.{all_due_copies, each_due_copy}
-use Rattle.chi_observer.proofs.Facts.{turned, top_copy, reach_self, is_settled}
+use Rattle.chi_observer.proofs.Facts.{turned, and_false, top_copy, reach_self, is_settled}
 use Rattle.chi_observer.proofs.Words.{or_words, others_than, others_differ, be_true}
 use Rattle.chi_observer.proofs.Put.{here, there, split, differ, unlike}
 use Rattle.chi_observer.proofs.Rewind.{Settled}
 use Rattle.chi_observer.proofs.Grants.{calm_given, settled_unmade}
 use Rattle.chi_observer.proofs.Copies.{each_below, below_all, unfresh, fitting}
-use Rattle.chi_observer.proofs.Cache.{last_here}
+use Rattle.chi_observer.proofs.Cache.{leads, last_here}
+use Rattle.chi_observer.proofs.Loads.{load_meant, load_sends}
 use Rattle.chi_observer.proofs.Back.{world_before, before_meant, before_sends}
 use Rattle.chi_observer.proofs.Origin.{world_given, old_meant, old_informed, old_gives}
 use Rattle.chi_observer.proofs.Tops.{top_settled}
@@ -130,6 +132,9 @@ module _ (o : Observed) where
       current = λ e u. no (sym (u m lm) ∙ stored_fresh);
     }
 
+    stored_data : holds_data (put m x tops m).copy ≡ true
+    stored_data = subst (λ (z : Held). holds_data z.copy ≡ true) (sym (here m x tops)) refl
+
     stored_settled : (n : ℕ) → m ≢ n → Settled o n stored_world
     stored_settled n apart = record {
       undone = record {
@@ -140,10 +145,6 @@ module _ (o : Observed) where
       };
       top = subst (λ z. is_settled (o.public.due n) (o.told n) z ≡ true) (sym (there m x tops n (λ e. apart (sym e)))) (top_settled (o.public.due n) (o.told n));
     }
-
-told_by_none : (b c : Bool) → (not b && c) ≡ true → b ≡ false
-told_by_none true c h = no h
-told_by_none false c h = refl
 
 -- A FLIT OF A CACHE
 module _ (es : List Flit) (f : CacheFlit) (a : Accepted (Up f ∷ es)) where
@@ -159,29 +160,54 @@ module _ (es : List Flit) (f : CacheFlit) (a : Accepted (Up f ∷ es)) where
   pub up_calm : (w : World) (k : ℕ) → k ≢ at → not (may_be_stored (now.public.due k) (now.told k) (tells_of (Up f) k)) ≡ true → fresh (was.public.due k) (was.told k) (w.state k) ≡ false
   up_calm w k apart h = subst (λ d. fresh d (was.told k) (w.state k) ≡ false) (there at _ was.public.due k apart)
       (subst (λ t. fresh (now.public.due k) t (w.state k) ≡ false) (there at _ was.told k apart)
-      (calm_by (k == at) (now.public.due k) (now.told k) (w.state k) (unlike k at apart) h))
+      (calm_by (k == at && not (looks f.act)) (now.public.due k) (now.told k) (w.state k) (ap (λ b. b && not (looks f.act)) (unlike k at apart)) h))
+
+  -- behind a load nobody's copy is told anew
+  pub load_calm : looks f.act ≡ true → (w : World) (k : ℕ) → not (may_be_stored (now.public.due k) (now.told k) (tells_of (Up f) k)) ≡ true → fresh (now.public.due k) (now.told k) (w.state k) ≡ false
+  load_calm load w k h = calm_by (tells_of (Up f) k) (now.public.due k) (now.told k) (w.state k) (and_false (k == at) _ (ap not load)) h
+
+  last_by : (b : Bool) → looks f.act ≡ b → home_is_last (next (seen es) f) (Up f) ≡ true → HomeIsLast (Up f ∷ es)
+  last_by true l h w v =
+      let e = exact es a.0 in
+      let sends : Sends was.public f v.0 w = subst (λ p. Sends p f v.0 w) (sym e.public) v.2 in
+      sym ((leads was f v.0 w e.sound a.1 (e.meant v.0 v.1) sends).current (left now.current _ h)
+      (λ k lk. load_calm l w k (each_below 32 (λ m. not (may_be_stored (now.public.due m) (now.told m) (tells_of (Up f) m))) (right now.current _ h) k lk)))
+  last_by false l h w v =
+      let e = exact es a.0 in
+      let sends : Sends was.public f v.0 w = subst (λ p. Sends p f v.0 w) (sym e.public) v.2 in
+      sym (last_here was f v.0 w e.sound a.1 (e.meant v.0 v.1) sends l (left now.current _ h)
+      (λ k apart lk. up_calm v.0 k apart (each_below 32 (λ m. not (may_be_stored (now.public.due m) (now.told m) (tells_of (Up f) m))) (right now.current _ h) k lk)))
 
   pub up_last : home_is_last (next (seen es) f) (Up f) ≡ true → HomeIsLast (Up f ∷ es)
-  up_last h w b =
-      let e = exact es a.0 in
-      let sends : Sends was.public f b.0 w = subst (λ p. Sends p f b.0 w) (sym e.public) b.2 in
-      sym (last_here was f b.0 w e.sound a.1 (e.meant b.0 b.1) sends (left now.current _ h)
-      (λ k apart lk. up_calm b.0 k apart (each_below 32 (λ m. not (may_be_stored (now.public.due m) (now.told m) (tells_of (Up f) m))) (right now.current _ h) k lk)))
+  up_last h = last_by (looks f.act) refl h
 
   pub up_behind : (w2 : World) → Settled now at w2 → Behind (Up f ∷ es) w2
   up_behind w2 st =
       let e = exact es a.0 in
       (world_before was f w2, e.after (world_before was f w2) (before_meant was f w2 e.sound a.1 a.2 st), subst (λ p. Sends p f (world_before was f w2) w2) e.public (before_sends was f w2 e.sound a.1 a.2 st))
 
+  -- a load changes nothing of a world with data
+  pub load_behind : looks f.act ≡ true → (w2 : World) → Meaning now w2 → holds_data (w2.state at).copy ≡ true → Behind (Up f ∷ es) w2
+  load_behind load w2 m has =
+      let e = exact es a.0 in
+      (w2, e.after w2 (load_meant was f w2 a.1 a.2 load m has), subst (λ p. Sends p f w2 w2) e.public (load_sends was f w2 a.1 a.2 load m has))
+
   shown_false : (w2 : World) → Settled now at w2 → HomeIsLast (Up f ∷ es) → w2.home ≡ w2.last
   shown_false w2 st all = all w2 (up_behind w2 st)
+
+  -- m has stored, and the flit didn't tell of its copy
+  stored_false : (m : ℕ) (lm : m < 32) (can : (may_be_free (now.public.due m) && is_unique (most (now.told m))) ≡ true) → (b l : Bool) → (m == at) ≡ b → looks f.act ≡ l → not (b && not l) ≡ true → HomeIsLast (Up f ∷ es) → was_home now ≡ others_than (was_home now)
+  stored_false m lm can false l e g h all = shown_false (stored_world now m lm can) (stored_settled now m lm can at (differ m at e)) all
+  stored_false m lm can true false e g h all = no h
+  stored_false m lm can true true e g h all = all (stored_world now m lm can)
+      (load_behind g (stored_world now m lm can) (stored_meant now m lm can) (subst (λ k. holds_data ((stored_world now m lm can).state k).copy ≡ true) (eqb-true m at e) (stored_data now m lm can)))
 
   pub up_surely : HomeIsLast (Up f ∷ es) → home_is_last (next (seen es) f) (Up f) ≡ true
   up_surely all = both now.current _
       (be_true now.current (λ c. others_differ (was_home now) (shown_false (lost_world now) (lost_settled now at c) all)))
       (below_all 32 (λ m. not (may_be_stored (now.public.due m) (now.told m) (tells_of (Up f) m))) (λ m lm. not_true _ (λ d.
-      let can : (may_be_free (now.public.due m) && is_unique (most (now.told m))) ≡ true = right (not (m == at)) _ d in
-      others_differ (was_home now) (shown_false (stored_world now m lm can) (stored_settled now m lm can at (differ m at (told_by_none (m == at) _ d))) all))))
+      let can : (may_be_free (now.public.due m) && is_unique (most (now.told m))) ≡ true = right (not (tells_of (Up f) m)) _ d in
+      others_differ (was_home now) (stored_false m lm can (m == at) (looks f.act) refl refl (left _ _ d) all))))
 
 -- A FLIT OF THE HOME
 module _ (es : List Flit) (g : HomeFlit) (a : Accepted (Down g ∷ es)) where

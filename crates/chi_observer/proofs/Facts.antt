@@ -7,11 +7,11 @@ use Rattle.chi_observer.specs.declared.told.Told.TheVariants.{SD}
 use Rattle.chi_observer.specs.declared.flits.Due.{Due}
 use Rattle.chi_observer.specs.declared.flits.Due.TheVariants.{Nothing, Completion, Resending, SureCompletion, WriteData, Acknowledgement}
 use Rattle.chi_observer.specs.declared.flits.Act.{Act}
-use Rattle.chi_observer.specs.declared.flits.Act.TheVariants.{Request, Resend, SnpResp, CompAck, CopyBackWrData, NonCopyBackWrData}
+use Rattle.chi_observer.specs.declared.flits.Act.TheVariants.{Request, Resend, SnpResp, CompAck, CopyBackWrData, NonCopyBackWrData, Load, Store}
 use Rattle.chi_observer.specs.declared.flits.Answer.TheVariants.{SnpRespI, SnpRespUC}
 use Rattle.chi_observer.specs.Copies.{Copy, Held, holds_data, is_unique, is_dirty, is_clean, same, compatible}
 use Rattle.chi_observer.specs.Copies.Copy.{Invalid, UniqueDirty, SharedDirty, Writing}
-use Rattle.chi_observer.specs.Rules.{is_free, is_resending, acts, throws, loses, has_data, writes, tells_words, due_after}
+use Rattle.chi_observer.specs.Rules.{is_free, is_resending, acts, throws, loses, looks, stores, leaves_any, has_data, writes, tells_words, due_after}
 use Rattle.chi_observer.specs.Tables.{Known, strongest, most, may, may_drift, reach, fresh, goes_with, told_behind, told_after, fits_told, tells_dirty, renews}
 use Rattle.chi_observer.proofs.Finite.{no, left, right, both, implies, follow}
 use Rattle.chi_observer.proofs.Spots.{acted_can, fits_can, Tried, all_plain, all_paired, spots, each_spot, sent_spots, each_sent, told_spots, each_told_spot, known_spots, each_known_spot, all_due_copies, each_due_copy, all_pairs, each_pair, all_told_pairs, each_told_pair, all_copy_pairs, each_copy_pair}
@@ -58,6 +58,11 @@ same_held_is a b h = λ i. record { copy = same_is a.copy b.copy (left _ _ h) i;
 abbrev pub of_form : Copy → Held → Held
 of_form s h = record { copy = s; cancelled = h.cancelled }
 
+-- the one where the other isn't
+pub one_of : (a b : Bool) → (a || b) ≡ true → b ≡ false → a ≡ true
+one_of true b h e = refl
+one_of false b h e = no (sym e ∙ h)
+
 -- what is sent with data has data, and what writes without a copy is told so
 abbrev pub on_some : Option Held → (Held → Bool) → Bool
 on_some None f = true
@@ -101,6 +106,28 @@ throws_silent (SnpResp SnpRespI) x h = refl
 throws_silent (SnpResp other) x h = no (right x _ h)
 throws_silent other x h = no h
 
+-- nor is one that is any then
+pub any_silent : (a : Act) (x : Bool) (d : Due) (s : Copy) → leaves_any a x d s ≡ true → tells_words a ≡ false
+any_silent (Request k) x d s h = no h
+any_silent (Resend k) x d s h = no h
+any_silent (SnpResp y) x d s h = throws_silent (SnpResp y) x (left _ _ (one_of _ false h refl))
+any_silent CompAck x d s h = no h
+any_silent (CopyBackWrData form) x d s h = no h
+any_silent NonCopyBackWrData x d s h = no h
+any_silent Load x d s h = no h
+any_silent Store x d s h = refl
+
+-- a load shows no words
+pub data_looks : (a : Act) → has_data a ≡ true → looks a ≡ false
+data_looks (Request k) h = refl
+data_looks (Resend k) h = refl
+data_looks (SnpResp y) h = refl
+data_looks CompAck h = refl
+data_looks (CopyBackWrData form) h = refl
+data_looks NonCopyBackWrData h = refl
+data_looks Load h = no h
+data_looks Store h = refl
+
 -- data of its own are no data of a copy
 pub no_data : (a : Act) → writes a ≡ true → has_data a ≡ false
 no_data (Request k) h = refl
@@ -109,14 +136,17 @@ no_data (SnpResp a) h = no h
 no_data CompAck h = refl
 no_data (CopyBackWrData s) h = no h
 no_data NonCopyBackWrData h = refl
+no_data Load h = refl
+no_data Store h = refl
 
 -- what a flit that is sent leaves; b: its data aren't the value that is known
 abbrev pub taken_well : Act → Bool → Due → Known → Held → Bool → Held → Bool
 taken_well a x d t s b s' = fits_told a x d t
-    && ((reach (due_after a d) (told_after a d t b) s' && may (told_behind a d t.told) s'.copy)
-    && (implies (not (renews a x d t)) (not (fresh d t s))
-    && (implies (holds_data s'.copy) (holds_data s.copy)
-    && implies (loses a x d s.copy) (renews a x d t && not (holds_data s'.copy)))))
+    && ((reach (due_after a d) (told_after a d t b) s' && implies (not (looks a)) (may (told_behind a d t.told) s'.copy))
+    && (implies (not (renews a x d t)) (implies (fresh d t s) (looks a && fresh (due_after a d) (told_after a d t b) s'))
+    && (implies (holds_data s'.copy) (holds_data s.copy || stores a)
+    && (implies (leaves_any a x d s.copy) (renews a x d t && is_unique s.copy)
+    && implies (loses a x d s.copy) (not (holds_data s'.copy))))))
 
 forward_table : Act → Bool → Due → Known → Held → Bool → Bool
 forward_table a x d t s b = implies (reach d t s && implies b (has_data a && fresh d t s)) (on_some (acts a x d s) (taken_well a x d t s b))
@@ -151,6 +181,7 @@ copy_before (Request Evict) d t s' = record { copy = most t; cancelled = is_rese
 copy_before (Request kind) d t s' = record { copy = s'.copy; cancelled = is_resending d }
 copy_before (Resend kind) d t s' = s'
 copy_before CompAck d t s' = s'
+copy_before Load d t s' = s'
 copy_before (SnpResp SnpRespUC) d t s' = s'
 copy_before NonCopyBackWrData d t s' = of_form Writing s'
 copy_before a d t s' = of_form (if tells_dirty a then stored_before t.told else most t) s'
@@ -162,11 +193,13 @@ is_some_of (Some s) s' = same_held s s'
 abbrev pub led_well : Act → Bool → Due → Known → Held → Held → Bool → Bool
 led_well a x d t s s' b = reach d t s
     && (is_some_of (acts a x d s) s'
-    && (implies (b || (renews a x d t && not (has_data a || throws a x))) (fresh d t s)
+    && (implies (b || (renews a x d t && not (has_data a || (throws a x || stores a)))) (fresh d t s)
     && ((implies (has_data a) (holds_data s.copy)
     && implies (writes a) (same s.copy Writing && not (holds_data s'.copy)))
     && (implies (renews a x d t && throws a x) (loses a x d s.copy)
-    && implies (loses a x d s.copy) (not (holds_data s'.copy))))))
+    && (implies (leaves_any a x d s.copy) (is_unique s.copy)
+    && (implies (loses a x d s.copy) (not (holds_data s'.copy))
+    && implies (stores a) (holds_data s'.copy)))))))
 
 -- right behind the last flit, before hidden steps
 abbrev pub is_settled : Due → Known → Held → Bool

@@ -6,6 +6,7 @@ mod Words
 mod Put
 mod Cache
 mod Comes
+mod Loads
 mod Rewind
 mod Back
 mod Copies

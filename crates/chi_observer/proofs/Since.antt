@@ -7,9 +7,9 @@ use Rattle.chi_observer.specs.declared.flits.CacheFlit.{CacheFlit}
 use Rattle.chi_observer.specs.declared.flits.HomeFlit.{HomeFlit}
 use Rattle.chi_observer.specs.declared.flits.Flit.{Flit}
 use Rattle.chi_observer.specs.declared.flits.Flit.TheVariants.{Up, Down}
-use Rattle.chi_observer.specs.Copies.{Held, is_unique, is_dirty}
-use Rattle.chi_observer.specs.Copies.Copy.{UniqueDirty}
-use Rattle.chi_observer.specs.Rules.{may_be_free, is_resending, awaits_moment, reads_once, needs_quiet, due_granted, granted}
+use Rattle.chi_observer.specs.Copies.{Copy, Held, holds_data, is_unique, is_dirty}
+use Rattle.chi_observer.specs.Copies.Copy.{UniqueDirty, SharedDirty}
+use Rattle.chi_observer.specs.Rules.{may_be_free, is_resending, looks, awaits_moment, reads_once, needs_quiet, due_granted, granted}
 use Rattle.chi_observer.specs.Tables.{Known, most, may, reach, fresh, told_granted}
 use Rattle.chi_observer.specs.Worlds.{Public, World, Sends, Gives, all_below, put}
 use Rattle.chi_observer.specs.Observed.{Observed, Unstored, Meaning, next, next_home}
@@ -20,14 +20,14 @@ use Rattle.chi_observer.proofs.Spots.{all_due_copies, each_due_copy}
 use Rattle.chi_observer.proofs.Facts.{turned, flip, unstored_clean, or_here, or_there, top_copy, reach_self, is_settled}
 use Rattle.chi_observer.proofs.Words.{or_words, others_differ, be_true}
 use Rattle.chi_observer.proofs.Put.{here, there, split, differ, unlike, alike}
-use Rattle.chi_observer.proofs.Rewind.{Undone, Settled}
+use Rattle.chi_observer.proofs.Rewind.{Undone}
 use Rattle.chi_observer.proofs.Copies.{each_below, below_all, unfresh, settled_given}
 use Rattle.chi_observer.proofs.Cache.{leads, last_here, settled_sent}
 use Rattle.chi_observer.proofs.Home.{home_leads}
 use Rattle.chi_observer.proofs.Origin.{world_given, old_meant, old_informed, old_gives}
 use Rattle.chi_observer.proofs.Tops.{top_settled}
 use Rattle.chi_observer.proofs.Waits.{wakes}
-use Rattle.chi_observer.proofs.Current.{up_calm, up_behind, up_last, up_surely, down_calm, down_home, down_behind, down_last, down_surely, was_home, lost_world, lost_settled}
+use Rattle.chi_observer.proofs.Current.{up_calm, load_calm, load_behind, up_behind, up_last, up_surely, down_calm, down_home, down_behind, down_last, down_surely, was_home, lost_world, lost_settled}
 use Rattle.chi_observer.proofs.Runs.{exact}
 
 one_of : (a b : Bool) → (a || b) ≡ true → a ≡ false → b ≡ true
@@ -112,6 +112,11 @@ dirty_settled : (d : Due) (t : Known) → is_dirty (most t) ≡ true → is_sett
 unfolding settled_table
 dirty_settled d t = follow (is_dirty (most t)) _ (each_due_copy settled_table settled_holds d t (top_copy d t))
 
+with_data : (s : Copy) → is_dirty s ≡ true → holds_data s ≡ true
+with_data UniqueDirty h = refl
+with_data SharedDirty h = refl
+with_data other h = no h
+
 -- m's copy is dirty, and each other the strongest
 module _ (o : Observed) (m : ℕ) (can : can_be_dirty (o.public.due m) (o.told m) ≡ true) where
   abbrev tops : ℕ → Held
@@ -135,6 +140,17 @@ module _ (o : Observed) (m : ℕ) (can : can_be_dirty (o.public.due m) (o.told m
 
   dirty_there : is_dirty (dirty_world.state m).copy ≡ true
   dirty_there = subst (λ (z : Held). is_dirty z.copy ≡ true) (sym (here m x tops)) (right (reach (o.public.due m) (o.told m) x) _ (dirty_found (o.public.due m) (o.told m) can))
+
+  dirty_meant : Meaning o dirty_world
+  dirty_meant = record {
+    told = (dirty_undone m).told;
+    words = λ _ _ _. refl;
+    home = λ v e. ap (λ z. or_words z []) e;
+    current = λ _ _. refl;
+  }
+
+  dirty_data : holds_data (dirty_world.state m).copy ≡ true
+  dirty_data = with_data (dirty_world.state m).copy dirty_there
 
   settled_at : (n : ℕ) → (m ≡ n → is_dirty (most (o.told m)) ≡ true) → is_settled (o.public.due n) (o.told n) (dirty_world.state n) ≡ true
   settled_at = split (λ n. (m ≡ n → is_dirty (most (o.told m)) ≡ true) → is_settled (o.public.due n) (o.told n) (put m x tops n) ≡ true) m
@@ -173,9 +189,10 @@ module _ (es : List Flit) (f : CacheFlit) (a : Accepted (Up f ∷ es)) (n : ℕ)
     led = leads was f b.0 w (exact es a.0).sound a.1 ((exact es a.0).meant b.0 b.1) sends
 
     others_clean : (m : ℕ) → m < 32 → m ≢ n → is_dirty (w.state m).copy ≡ false
-    others_clean m lm ne = clean_by (m == f.agent.0) (now.public.due m) (now.told m) (w.state m)
+    others_clean m lm ne = clean_by (tells_of (Up f) m) (now.public.due m) (now.told m) (w.state m)
         (led.told m lm)
-        (λ same. subst (λ k. may (now.told k).told (w.state k).copy ≡ true) (sym (eqb-true m f.agent.0 same)) (settled_sent was f b.0 w (exact es a.0).sound a.1 ((exact es a.0).meant b.0 b.1) sends))
+        (λ same. subst (λ k. may (now.told k).told (w.state k).copy ≡ true) (sym (eqb-true m f.agent.0 (left (m == f.agent.0) _ same)))
+        (settled_sent was f b.0 w (exact es a.0).sound a.1 ((exact es a.0).meant b.0 b.1) sends (turned _ (right (m == f.agent.0) _ same))))
         (up_else h m lm ne)
 
     calm_each : is_dirty (w.state n).copy ≡ false → (k : ℕ) → k ≢ f.agent.0 → k < 32 → fresh (was.public.due k) (was.told k) (b.0.state k) ≡ false
@@ -183,27 +200,43 @@ module _ (es : List Flit) (f : CacheFlit) (a : Accepted (Up f ∷ es)) (n : ℕ)
         (λ apart lk. unstored_clean (was.public.due n) (was.told n) (b.0.state n) (subst (λ (z : Held). is_dirty z.copy ≡ false) (sends.others.state n lk apart) nd))
         (λ k ne apart lk. up_calm es f a b.0 k apart (not_stored (is_dirty (most (now.told k))) _ (up_else h k lk ne)))
 
+    unstored_behind : looks f.act ≡ true → is_dirty (w.state n).copy ≡ false → Unstored now w
+    unstored_behind load nd = split (λ k. k < 32 → fresh (now.public.due k) (now.told k) (w.state k) ≡ false) n
+        (λ _. unstored_clean (now.public.due n) (now.told n) (w.state n) nd)
+        (λ k ne lk. load_calm es f a load w k (not_stored (is_dirty (most (now.told k))) _ (up_else h k lk ne)))
+
+    last_home : (l : Bool) → looks f.act ≡ l → is_dirty (w.state n).copy ≡ false → now.current ≡ true → w.last ≡ w.home
+    last_home true l nd c = led.current c (unstored_behind l nd)
+    last_home false l nd c = last_here was f b.0 w (exact es a.0).sound a.1 ((exact es a.0).meant b.0 b.1) sends l c (calm_each nd)
+
     value_home : n < 32 → is_dirty (w.state n).copy ≡ false → (c : Bool) → is_dirty (most (now.told n)) ≡ c → (is_dirty (most (now.told n)) || now.current) ≡ true → w.home ≡ w.last
     value_home low nd true hc e = no (sym nd ∙ told_dirty (now.public.due n) (now.told n) (w.state n) hc (led.told n low))
-    value_home low nd false hc e = sym (last_here was f b.0 w (exact es a.0).sound a.1 ((exact es a.0).meant b.0 b.1) sends (one_of (is_dirty (most (now.told n))) _ e hc) (calm_each nd))
+    value_home low nd false hc e = sym (last_home (looks f.act) refl nd (one_of (is_dirty (most (now.told n))) _ e hc))
 
   pub up_clean : n < 32 → none_dirty (next (seen es) f) (Up f) n ≡ true → NoneDirty (Up f ∷ es) n
   up_clean low h w b =
       let rest = right (is_dirty (most (now.told n)) || now.current) _ h in
       (others_clean rest w b, λ nd. value_home rest w b low nd (is_dirty (most (now.told n))) refl (left _ (all_below 32 each_clean) h))
 
+  -- m's copy is dirty, and the flit didn't tell that it isn't
+  dirty_settled_at : (m : ℕ) (can : can_be_dirty (now.public.due m) (now.told m) ≡ true) → (m ≡ f.agent.0 → is_dirty (most (now.told m)) ≡ true) → Behind (Up f ∷ es) (dirty_world now m can)
+  dirty_settled_at m can h = up_behind es f a (dirty_world now m can) (record { undone = dirty_undone now m can f.agent.0; top = settled_at now m can f.agent.0 h })
+
+  dirty_behind : (m : ℕ) (can : can_be_dirty (now.public.due m) (now.told m) ≡ true) (c : Bool) → (is_dirty (most (now.told m)) || (not (m == f.agent.0 && not (looks f.act)) && c)) ≡ true → (b l : Bool) → (m == f.agent.0) ≡ b → looks f.act ≡ l → Behind (Up f ∷ es) (dirty_world now m can)
+  dirty_behind m can c d b false e g = dirty_settled_at m can (λ h. surely (is_dirty (most (now.told m))) (m == f.agent.0 && not (looks f.act)) c d
+      (both (m == f.agent.0) _ (subst (λ k. (m == k) ≡ true) h (alike m)) (flip _ g)))
+  dirty_behind m can c d false true e g = dirty_settled_at m can (λ h. no (sym e ∙ subst (λ k. (m == k) ≡ true) h (alike m)))
+  dirty_behind m can c d true true e g = load_behind es f a g (dirty_world now m can) (dirty_meant now m can)
+      (subst (λ k. holds_data ((dirty_world now m can).state k).copy ≡ true) (eqb-true m f.agent.0 e) (dirty_data now m can))
+
   pub up_none : NoneDirty (Up f ∷ es) n → none_dirty (next (seen es) f) (Up f) n ≡ true
   up_none all = both (is_dirty (most (now.told n)) || now.current) _
       (or_right (is_dirty (most (now.told n))) _ (λ nd. be_true now.current (λ c. others_differ (was_home now) ((all (lost_world now) (up_behind es f a (lost_world now) (lost_settled now f.agent.0 c))).1 nd))))
       (below_all 32 each_clean
       (λ m lm. or_right (m == n) _ (λ ne. not_true _ (λ d.
-      let can : can_be_dirty (now.public.due m) (now.told m) ≡ true = weaker (is_dirty (most (now.told m))) (m == f.agent.0) _ d in
+      let can : can_be_dirty (now.public.due m) (now.told m) ≡ true = weaker (is_dirty (most (now.told m))) (tells_of (Up f) m) _ d in
       let w2 = dirty_world now m can in
-      let st : Settled now f.agent.0 w2 = record {
-        undone = dirty_undone now m can f.agent.0;
-        top = settled_at now m can f.agent.0 (λ h. surely (is_dirty (most (now.told m))) (m == f.agent.0) _ d (subst (λ k. (m == k) ≡ true) h (alike m)));
-      } in
-      sym ((all w2 (up_behind es f a w2 st)).0 m lm (differ m n ne))
+      sym ((all w2 (dirty_behind m can _ d (m == f.agent.0) (looks f.act) refl refl)).0 m lm (differ m n ne))
       ∙ dirty_there now m can))))
 
 -- A FLIT OF THE HOME

@@ -7,7 +7,7 @@ use Rattle.chi_observer.specs.declared.kinds.Kind.TheVariants.{ReadOnce}
 use Rattle.chi_observer.specs.declared.flits.Due.{Due}
 use Rattle.chi_observer.specs.declared.flits.Due.TheVariants.{Nothing, Completion, Resending, SureCompletion, WriteData, Acknowledgement}
 use Rattle.chi_observer.specs.declared.flits.Act.{Act}
-use Rattle.chi_observer.specs.declared.flits.Act.TheVariants.{Request, Resend, SnpResp, CompAck, CopyBackWrData, NonCopyBackWrData}
+use Rattle.chi_observer.specs.declared.flits.Act.TheVariants.{Request, Resend, SnpResp, CompAck, CopyBackWrData, NonCopyBackWrData, Load, Store}
 use Rattle.chi_observer.specs.declared.flits.Grant.{Grant}
 use Rattle.chi_observer.specs.declared.flits.CacheFlit.{CacheFlit}
 use Rattle.chi_observer.specs.declared.flits.HomeFlit.{HomeFlit}
@@ -56,6 +56,8 @@ read_before (SnpResp a) x d t f i h = h
 read_before CompAck x d t f i h = no h
 read_before (CopyBackWrData s) x d t f i h = no h
 read_before NonCopyBackWrData x d t f i h = no h
+read_before Load x d t f i h = h
+read_before Store x d t f i h = h
 
 given_table : Grant → Due → Bool
 given_table g d = implies (reads_once (due_granted g d)) (reads_once d)

@@ -6,7 +6,7 @@ use Rattle.chi_observer.specs.declared.flits.Flit.{Flit}
 use Rattle.chi_observer.specs.declared.flits.Flit.TheVariants.{Up, Down}
 use Rattle.chi_observer.specs.declared.flits.Due.{Due}
 use Rattle.chi_observer.specs.Copies.{is_unique, is_dirty}
-use Rattle.chi_observer.specs.Rules.{may_be_free, is_request, needs_quiet, awaits_moment, reads_once, opens_moment as opens_by, needs_moment}
+use Rattle.chi_observer.specs.Rules.{may_be_free, looks, is_request, needs_quiet, awaits_moment, reads_once, opens_moment as opens_by, needs_moment}
 use Rattle.chi_observer.specs.Tables.{Known, most}
 use Rattle.chi_observer.specs.Worlds.{all_below}
 use Rattle.chi_observer.specs.Observed.{Observed, next, next_home}
@@ -21,9 +21,9 @@ abbrev pub is_issue : Flit → ℕ → Bool
 is_issue (Up f) n = is_request f.act && n == f.agent.0
 is_issue (Down g) n = false
 
--- right behind it the copy is as it is told: a snoop tells of none
+-- right behind it the copy is as it is told: a load doesn't tell that nothing was stored, and a snoop tells of none
 abbrev pub tells_of : Flit → ℕ → Bool
-tells_of (Up f) n = n == f.agent.0
+tells_of (Up f) n = n == f.agent.0 && not (looks f.act)
 tells_of (Down g) n = n == g.agent.0 && not (needs_quiet g.grant)
 
 -- there may have been a store that nobody saw; told: the last flit told of the copy

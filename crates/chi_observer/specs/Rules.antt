@@ -12,7 +12,7 @@ use Rattle.chi_observer.specs.declared.flits.Due.TheVariants.{Nothing, Completio
 use Rattle.chi_observer.specs.declared.flits.Answer.{Answer}
 use Rattle.chi_observer.specs.declared.flits.Answer.TheVariants.{SnpRespI, SnpRespSC, SnpRespUC, SnpRespDataI, SnpRespDataSC, SnpRespDataUC, SnpRespDataUD, SnpRespDataSD, SnpRespDataIPD, SnpRespDataSCPD, SnpRespDataUCPD}
 use Rattle.chi_observer.specs.declared.flits.Act.{Act}
-use Rattle.chi_observer.specs.declared.flits.Act.TheVariants.{Request, Resend, SnpResp, CompAck, CopyBackWrData, NonCopyBackWrData}
+use Rattle.chi_observer.specs.declared.flits.Act.TheVariants.{Request, Resend, SnpResp, CompAck, CopyBackWrData, NonCopyBackWrData, Load, Store}
 use Rattle.chi_observer.specs.declared.flits.Grant.{Grant}
 use Rattle.chi_observer.specs.declared.flits.Grant.TheVariants.{RetryAck, Snp, CompData, CompUC, CompSC, CompI, CompDBIDResp}
 use Rattle.chi_observer.specs.Copies.{Copy, Held, copy_of, holds_data, is_unique, is_dirty, is_clean, same}
@@ -194,6 +194,24 @@ may_be_free other = false
 abbrev pub loses : Act → Bool → Due → Copy → Bool
 loses a x d s = throws a x && (may_be_free d && is_unique s)
 
+-- a load: it tells that there are data, and not that nothing was stored since
+abbrev pub looks : Act → Bool
+looks Load = true
+looks other = false
+
+abbrev pub stores : Act → Bool
+stores Store = true
+stores other = false
+
+-- a store may be done: nothing is pending of such a copy, or the CompAck of a completion alone
+abbrev pub may_store : Due → Held → Bool
+may_store Acknowledgement h = true
+may_store other h = is_free other h
+
+-- the value last stored is any then
+abbrev pub leaves_any : Act → Bool → Due → Copy → Bool
+leaves_any a x d s = loses a x d s || stores a
+
 -- the copy that a flit leaves, where its cache may send it; x: the snoop lets dirty data be thrown away
 abbrev pub acts : Act → Bool → Due → Held → Option Held
 acts (Request kind) x d h = if is_free d h && is_issued_from kind h.copy then Some (plain (issued kind h.copy)) else None
@@ -202,6 +220,8 @@ acts (SnpResp answer) x d h = if is_answered_from answer h.copy || (throws (SnpR
 acts CompAck x Acknowledgement h = Some h
 acts (CopyBackWrData form) x (WriteData kind) h = if is_copy_back kind && is_written_from form h.copy then Some (record { copy = copy_of (written kind form); cancelled = h.cancelled }) else None
 acts NonCopyBackWrData x (WriteData kind) h = if is_whole_write kind && same h.copy Writing then Some (record { copy = Invalid; cancelled = h.cancelled }) else None
+acts Load x d h = if holds_data h.copy then Some h else None
+acts Store x d h = if may_store d h && is_unique h.copy then Some (record { copy = UniqueDirty; cancelled = h.cancelled }) else None
 acts a x d h = None
 
 abbrev pub answer_has_data : Answer → Bool
@@ -222,6 +242,8 @@ has_data (SnpResp answer) = answer_has_data answer
 has_data CompAck = false
 has_data (CopyBackWrData form) = form_has_data form
 has_data NonCopyBackWrData = false
+has_data Load = false
+has_data Store = false
 
 -- it has the whole line, which its cache writes without a copy
 abbrev pub writes : Act → Bool
@@ -244,6 +266,8 @@ due_after (SnpResp answer) d = d
 due_after CompAck d = Nothing
 due_after (CopyBackWrData form) d = Nothing
 due_after NonCopyBackWrData d = Nothing
+due_after Load d = d
+due_after Store d = d
 
 abbrev pub snooped_after : Act → Option Snoop → Option Snoop
 snooped_after (SnpResp answer) q = None

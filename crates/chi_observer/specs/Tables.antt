@@ -12,7 +12,7 @@ use Rattle.chi_observer.specs.declared.flits.Due.TheVariants.{Nothing, Resending
 use Rattle.chi_observer.specs.declared.flits.Answer.{Answer}
 use Rattle.chi_observer.specs.declared.flits.Answer.TheVariants.{SnpRespI, SnpRespSC, SnpRespUC, SnpRespDataI, SnpRespDataSC, SnpRespDataUC, SnpRespDataUD, SnpRespDataSD, SnpRespDataIPD, SnpRespDataSCPD, SnpRespDataUCPD}
 use Rattle.chi_observer.specs.declared.flits.Act.{Act}
-use Rattle.chi_observer.specs.declared.flits.Act.TheVariants.{Request, Resend, SnpResp, CompAck, CopyBackWrData, NonCopyBackWrData}
+use Rattle.chi_observer.specs.declared.flits.Act.TheVariants.{Request, Resend, SnpResp, CompAck, CopyBackWrData, NonCopyBackWrData, Load, Store}
 use Rattle.chi_observer.specs.declared.flits.Grant.{Grant}
 use Rattle.chi_observer.specs.declared.flits.Grant.TheVariants.{RetryAck, CompData, CompUC, CompI, CompDBIDResp}
 use Rattle.chi_observer.specs.Copies.{Copy, Held, copy_of, holds_data, is_unique, is_dirty, is_clean, same, compatible}
@@ -135,9 +135,11 @@ tells_dirty (SnpResp answer) = answer_tells_dirty answer
 tells_dirty other = false
 
 -- a dirty answer to a snoop, where a request was retried: it is surely cancelled where the copy was told clean, or where
--- its words aren't the known ones
+-- its words aren't the known ones; and behind a store, and a load of a line that was told to be without data
 abbrev pub is_cancelled : Act → Due → Known → Bool → Bool
 is_cancelled (SnpResp answer) (Resending kind) k differ = k.cancelled || (answer_tells_dirty answer && (is_unique (most k) && (differ || not (same (most k) UniqueDirty))))
+is_cancelled Load (Resending kind) k differ = k.cancelled || same (most k) UniqueEmpty
+is_cancelled Store (Resending kind) k differ = true
 is_cancelled a d k differ = false
 
 -- a unique copy that stays as it is, with data or without
@@ -151,12 +153,23 @@ abbrev pub told_answered : Answer → Told → Told
 told_answered SnpRespUC t = told_unique t
 told_answered answer t = told_as (left_by answer)
 
+-- a copy with data: of one without the whole line was written
+abbrev pub told_loaded : Told → Told
+told_loaded SCOrI = SC
+told_loaded UCOrI = UC
+told_loaded UCOrUCE = UC
+told_loaded UCE = UD
+told_loaded UCEOrI = UD
+told_loaded other = other
+
 -- what is told behind a flit
 abbrev pub told_behind : Act → Due → Told → Told
 told_behind (Request kind) d t = told_issued kind t
 told_behind (SnpResp answer) d t = told_answered answer t
 told_behind (CopyBackWrData form) (WriteData kind) t = told_as (written kind form)
 told_behind NonCopyBackWrData d t = I
+told_behind Load d t = told_loaded t
+told_behind Store d t = UD
 told_behind a d t = t
 
 abbrev pub told_after : Act → Due → Known → Bool → Known
@@ -200,6 +213,17 @@ abbrev pub fits_form : State → Told → Bool
 fits_form states.I t = may_be_gone t
 fits_form form t = same (strongest t) (copy_of form)
 
+-- or that is loaded, or stored to: the line may have been written
+abbrev pub fits_load : Due → Told → Bool
+fits_load d t = holds_data (strongest t) || (may_be_free d && is_unique (strongest t))
+
+abbrev pub lets_store : Due → Bool
+lets_store Acknowledgement = true
+lets_store other = may_be_free other
+
+abbrev pub fits_store : Due → Told → Bool
+fits_store d t = lets_store d && is_unique (strongest t)
+
 -- whether some copy that it may be sends the flit; x: the snoop lets dirty data be thrown away
 abbrev pub fits_told : Act → Bool → Due → Known → Bool
 fits_told (Request kind) x d k = may_be_free d && fits_issue kind k.told
@@ -208,10 +232,14 @@ fits_told (SnpResp answer) x d k = fits_answer answer d k.told || (throws (SnpRe
 fits_told CompAck x Acknowledgement k = true
 fits_told (CopyBackWrData form) x (WriteData kind) k = is_copy_back kind && fits_form form k.told
 fits_told NonCopyBackWrData x (WriteData kind) k = is_whole_write kind && same (most k) Writing
+fits_told Load x d k = fits_load d k.told
+fits_told Store x d k = fits_store d k.told
 fits_told a x d k = false
 
 -- and so that there may have been a store since
 abbrev pub renews : Act → Bool → Due → Known → Bool
+renews Load x d k = may_be_free d && same (most k) UniqueEmpty
+renews Store x d k = true
 renews a x d k = may_be_free d && (is_unique (most k) && (tells_dirty a || throws a x))
 
 -- FLITS OF THE HOME

@@ -7,7 +7,7 @@ use Rattle.chi_observer.specs.declared.flits.CacheFlit.{CacheFlit}
 use Rattle.chi_observer.specs.declared.flits.HomeFlit.{HomeFlit}
 use Rattle.chi_observer.specs.Copies.{Held, holds_data, is_unique, is_clean, is_dirty, same, compatible}
 use Rattle.chi_observer.specs.Copies.Copy.{Invalid, UniqueDirty}
-use Rattle.chi_observer.specs.Rules.{is_free, is_resending, allows, acts, has_data, writes, tells_words, lets_go, throws, loses, needs_alone, makes, settles, overwrites, needs_overwriter, due_after, snooped_after, passes_duty, is_due, needs_duty, needs_quiet, is_busy, granted, fills, shows, due_granted, snooped_granted}
+use Rattle.chi_observer.specs.Rules.{is_free, is_resending, allows, acts, has_data, writes, tells_words, lets_go, throws, stores, leaves_any, needs_alone, makes, settles, overwrites, needs_overwriter, due_after, snooped_after, passes_duty, is_due, needs_duty, needs_quiet, is_busy, granted, fills, shows, due_granted, snooped_granted}
 
 -- what flits say by themselves: requests, snoops without an answer, whether the home has dirty data that it must write or
 -- pass on, and whether a SnpMakeInvalid was answered and no flit has shown or made the line's value since
@@ -75,14 +75,15 @@ pub data Drift (p : Public) : World → World → Type 0 where
 
 -- A FLIT OF A CACHE
 -- sent by the copy alone; data are the copy's words, and the home has them then; what is written without a copy is the
--- value last stored, and where it is lost it is any
+-- value last stored; where that is lost it is any, and so is what is stored
 pub record Sends (p : Public) (f : CacheFlit) (w w' : World) : Type 0 where
   pub allowed : allows f.act (p.snooped f.agent.0) ≡ true
   pub act : acts f.act (lets_go (p.snooped f.agent.0)) (p.due f.agent.0) (w.state f.agent.0) ≡ Some (w'.state f.agent.0)
   pub shown : has_data f.act ≡ true → f.shown ≡ w.words f.agent.0
-  pub last : loses f.act (lets_go (p.snooped f.agent.0)) (p.due f.agent.0) (w.state f.agent.0).copy ≡ false → w'.last ≡ (if writes f.act then f.shown else w.last)
+  pub last : leaves_any f.act (lets_go (p.snooped f.agent.0)) (p.due f.agent.0) (w.state f.agent.0).copy ≡ false → w'.last ≡ (if writes f.act then f.shown else w.last)
   pub home : w'.home ≡ (if tells_words f.act then f.shown else w.home)
-  pub words : holds_data (w'.state f.agent.0).copy ≡ true → w'.words f.agent.0 ≡ w.words f.agent.0
+  pub words : holds_data (w'.state f.agent.0).copy ≡ true → stores f.act ≡ false → w'.words f.agent.0 ≡ w.words f.agent.0
+  pub stored : stores f.act ≡ true → w'.words f.agent.0 ≡ w'.last
   pub others : Elsewhere f.agent.0 w w'
 
 -- f with x at n

@@ -57,6 +57,10 @@ pub enum Act {
     CopyBackWrData(State),
     /// The write data of a WriteUniqueFull.
     NonCopyBackWrData,
+    /// A load of its processor: of its words nothing is judged.
+    Load,
+    /// A store of its processor: of its words nothing is judged.
+    Store,
 }
 
 /// A flit of a cache.
@@ -119,8 +123,12 @@ impl Act {
         match self {
             Act::Request(kind) => kind.is_judged(),
             Act::Resend(kind) => kind.is_judged(),
-            Act::SnpResp(_) | Act::CompAck | Act::CopyBackWrData(_) | Act::NonCopyBackWrData =>
-                true,
+            Act::SnpResp(_)
+            | Act::CompAck
+            | Act::CopyBackWrData(_)
+            | Act::NonCopyBackWrData
+            | Act::Load
+            | Act::Store => true,
         }
     }
 }

@@ -7,7 +7,7 @@ ghost use Rattle.chi_observer.specs.Lines.{is_clean_beside, is_cleaned_of, known
 
 use crate::flits::{Act, Flit};
 use crate::observer::AgentSeen;
-use crate::rules::{awaits_moment, needs_quiet, opens_moment, reads_once};
+use crate::rules::{awaits_moment, looks, needs_quiet, opens_moment, reads_once};
 use crate::told::may_be_free;
 
 /// Whether a CleanShared or a ReadOnce may be open behind the flit, where it is so that one may have been before.
@@ -147,7 +147,7 @@ fn tells_of(flit: Flit, agent: usize) -> bool
     ensures { result ≡ tells_of flit agent }
 {
     match flit {
-        Flit::Up(sent) => agent == usize::from(sent.agent.0),
+        Flit::Up(sent) => agent == usize::from(sent.agent.0) && !looks(sent.act),
         Flit::Down(given) => { agent == usize::from(given.agent.0) && !needs_quiet(given.grant) }
     }
 }

@@ -293,6 +293,8 @@ impl AgentSeen {
             (Act::NonCopyBackWrData, Due::WriteData(kind)) => {
                 kind.is_whole_write() && matches!(self.told, Told::Writing)
             }
+            (Act::Load, due) => self.told.may_load(due),
+            (Act::Store, due) => self.told.may_store(due),
             _ => false,
         }
     }
@@ -301,7 +303,19 @@ impl AgentSeen {
     fn is_renewed(self, act: Act, goes: bool) -> bool
         ensures { result ≡ renews act goes self.due (known_of self) }
     {
-        may_be_free(self.due) && (self.told.is_unique() && (tells_dirty(act) || throws(act, goes)))
+        match act {
+            Act::Load => may_be_free(self.due) && self.told.is_empty(),
+            Act::Store => true,
+            Act::Request(_)
+            | Act::Resend(_)
+            | Act::SnpResp(_)
+            | Act::CompAck
+            | Act::CopyBackWrData(_)
+            | Act::NonCopyBackWrData => {
+                may_be_free(self.due)
+                    && (self.told.is_unique() && (tells_dirty(act) || throws(act, goes)))
+            }
+        }
     }
 
     /// Whether the request that was retried is surely cancelled behind the flit; `differs` says that its words aren't
@@ -315,6 +329,8 @@ impl AgentSeen {
                     || (answer_tells_dirty(answer)
                         && (self.told.is_unique() && (differs || !matches!(self.told, Told::UD))))
             }
+            (Act::Load, Due::Resending(_)) => self.cancelled || self.told.is_empty(),
+            (Act::Store, Due::Resending(_)) => true,
             _ => false,
         }
     }

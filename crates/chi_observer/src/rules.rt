@@ -1,7 +1,7 @@
 //! What flits say by themselves.
 
 ghost use Rattle.std.specs.Prelude.{◌≡◌, ◌&&◌, ◌||◌, Some, not};
-ghost use Rattle.chi_observer.specs.Rules.{allows, answer_drops, awaits_moment, completes, due_after, due_granted, form_passes, gives_copy, gives_data, has_data, is_busy, is_clean_form, is_completed, is_due, is_shared_form, is_upgraded, is_written_whole, leaves, left_by, lets_go, makes, needs_alone, needs_duty, needs_moment, needs_overwriter, needs_quiet, opens_moment, overwrites, passes_duty, reads_once, same_kind, settles, snooped_after, snooped_granted, tells_words, throws, writes, written};
+ghost use Rattle.chi_observer.specs.Rules.{allows, answer_drops, awaits_moment, completes, due_after, due_granted, form_passes, gives_copy, gives_data, has_data, is_busy, is_clean_form, is_completed, is_due, is_shared_form, is_upgraded, is_written_whole, leaves, left_by, lets_go, looks, makes, needs_alone, needs_duty, needs_moment, needs_overwriter, needs_quiet, opens_moment, overwrites, passes_duty, reads_once, same_kind, settles, snooped_after, snooped_granted, tells_words, throws, writes, written};
 
 use crate::flits::{Act, Answer, Due, Grant};
 use crate::kinds::{Kind, Snoop};
@@ -57,7 +57,9 @@ pub(crate) fn allows(act: Act, snooped: Option<Snoop>) -> bool
         | Act::Resend(_)
         | Act::CompAck
         | Act::CopyBackWrData(_)
-        | Act::NonCopyBackWrData => true,
+        | Act::NonCopyBackWrData
+        | Act::Load
+        | Act::Store => true,
     }
 }
 
@@ -92,7 +94,9 @@ pub(crate) fn throws(act: Act, lets_go: bool) -> bool
         | Act::Resend(_)
         | Act::CompAck
         | Act::CopyBackWrData(_)
-        | Act::NonCopyBackWrData => false,
+        | Act::NonCopyBackWrData
+        | Act::Load
+        | Act::Store => false,
     }
 }
 
@@ -143,7 +147,12 @@ pub(crate) fn has_data(act: Act) -> bool
     ensures { result ≡ has_data act }
 {
     match act {
-        Act::Request(_) | Act::Resend(_) | Act::CompAck | Act::NonCopyBackWrData => false,
+        Act::Request(_)
+        | Act::Resend(_)
+        | Act::CompAck
+        | Act::NonCopyBackWrData
+        | Act::Load
+        | Act::Store => false,
         Act::SnpResp(answer) => {
             !matches!(
                 answer,
@@ -168,6 +177,13 @@ pub(crate) fn tells_words(act: Act) -> bool
     has_data(act) || writes(act)
 }
 
+/// Whether a flit of a cache is a load, which doesn't tell that nothing was stored since.
+pub(crate) fn looks(act: Act) -> bool
+    ensures { result ≡ looks act }
+{
+    matches!(act, Act::Load)
+}
+
 /// What is due behind a flit of a cache.
 pub(crate) fn due_after(act: Act, due: Due) -> Due
     ensures { result ≡ due_after act due }
@@ -175,7 +191,7 @@ pub(crate) fn due_after(act: Act, due: Due) -> Due
     match act {
         Act::Request(kind) => Due::Completion(kind),
         Act::Resend(kind) => Due::SureCompletion(kind),
-        Act::SnpResp(_) => due,
+        Act::SnpResp(_) | Act::Load | Act::Store => due,
         Act::CompAck | Act::CopyBackWrData(_) | Act::NonCopyBackWrData => Due::Nothing,
     }
 }
@@ -190,7 +206,9 @@ pub(crate) fn snooped_after(act: Act, snooped: Option<Snoop>) -> Option<Snoop>
         | Act::Resend(_)
         | Act::CompAck
         | Act::CopyBackWrData(_)
-        | Act::NonCopyBackWrData => snooped,
+        | Act::NonCopyBackWrData
+        | Act::Load
+        | Act::Store => snooped,
     }
 }
 
@@ -207,7 +225,7 @@ pub(crate) fn passes_duty(act: Act) -> bool
         }
         Act::CopyBackWrData(form) => passes_by(form),
         Act::NonCopyBackWrData => true,
-        Act::Request(_) | Act::Resend(_) | Act::CompAck => false,
+        Act::Request(_) | Act::Resend(_) | Act::CompAck | Act::Load | Act::Store => false,
     }
 }
 

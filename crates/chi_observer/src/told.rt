@@ -3,7 +3,7 @@
 ghost use Rattle.std.specs.Prelude.{◌≡◌, ◌&&◌};
 ghost use Rattle.chi_observer.specs.Copies.{compatible, Copy, holds_data, is_clean, is_dirty, is_unique, same};
 ghost use Rattle.chi_observer.specs.Rules.{may_be_free};
-ghost use Rattle.chi_observer.specs.Tables.{answer_tells_dirty, fits_answer, fits_form, fits_issue, may_be_gone, strongest, tells_dirty, told_answered, told_as, told_behind, told_by, told_clean, told_completed, told_empty, told_filled, told_issued, told_shared, told_unique, told_upgraded};
+ghost use Rattle.chi_observer.specs.Tables.{answer_tells_dirty, fits_answer, fits_form, fits_issue, fits_load, fits_store, lets_store, may_be_gone, strongest, tells_dirty, told_answered, told_as, told_behind, told_by, told_clean, told_completed, told_empty, told_filled, told_issued, told_loaded, told_shared, told_unique, told_upgraded};
 
 use crate::flits::{Act, Answer, Due, Grant};
 use crate::kinds::Kind;
@@ -79,6 +79,23 @@ impl Told {
         ensures { result ≡ may_be_gone self }
     {
         !matches!(self, Told::UD | Told::SD | Told::Writing)
+    }
+
+    /// Whether it may have data.
+    fn holds_data(self) -> bool
+        ensures { result ≡ holds_data (strongest self) }
+    {
+        matches!(
+            self,
+            Told::SC | Told::SCOrI | Told::UC | Told::UCOrI | Told::UCOrUCE | Told::UD | Told::SD
+        )
+    }
+
+    /// Whether it may be unique, and is without data where it is.
+    pub(crate) fn is_empty(self) -> bool
+        ensures { result ≡ same (strongest self) Copy.UniqueEmpty }
+    {
+        matches!(self, Told::UCE | Told::UCEOrI)
     }
 
     /// Whether it is surely none.
@@ -180,6 +197,20 @@ impl Told {
         }
     }
 
+    /// Whether a load may be of it; `due` says whether there may have been a store.
+    pub(crate) fn may_load(self, due: Due) -> bool
+        ensures { result ≡ fits_load due self }
+    {
+        self.holds_data() || (may_be_free(due) && self.is_unique())
+    }
+
+    /// Whether a store to it may be done while this is due.
+    pub(crate) fn may_store(self, due: Due) -> bool
+        ensures { result ≡ fits_store due self }
+    {
+        lets_store(due) && self.is_unique()
+    }
+
     /// What is told behind a flit of the copy's cache.
     pub(crate) fn after(self, act: Act, due: Due) -> Told
         ensures { result ≡ told_behind act due self }
@@ -188,6 +219,8 @@ impl Told {
             Act::Request(kind) => self.after_request(kind),
             Act::SnpResp(answer) => self.after_answer(answer),
             Act::NonCopyBackWrData => Told::I,
+            Act::Load => self.loaded(),
+            Act::Store => Told::UD,
             Act::Resend(_) | Act::CompAck => self,
             Act::CopyBackWrData(form) => match due {
                 Due::WriteData(kind) => told_as(written(kind, form)),
@@ -203,6 +236,18 @@ impl Told {
         match answer {
             Answer::SnpRespUC => self.unique(),
             _ => told_as(left_by(answer)),
+        }
+    }
+
+    /// What is told behind a load: a copy with data, and of one without that the whole line was written.
+    fn loaded(self) -> Told
+        ensures { result ≡ told_loaded self }
+    {
+        match self {
+            Told::SCOrI => Told::SC,
+            Told::UCOrI | Told::UCOrUCE => Told::UC,
+            Told::UCE | Told::UCEOrI => Told::UD,
+            Told::I | Told::SC | Told::UC | Told::UD | Told::SD | Told::Writing => self,
         }
     }
 
@@ -351,6 +396,13 @@ pub(crate) fn may_be_free(due: Due) -> bool
     matches!(due, Due::Nothing | Due::Resending(_))
 }
 
+/// Whether a store may be done while this is due.
+fn lets_store(due: Due) -> bool
+    ensures { result ≡ lets_store due }
+{
+    matches!(due, Due::Nothing | Due::Resending(_) | Due::Acknowledgement)
+}
+
 /// Whether the answer says that its sender's copy was dirty.
 pub(crate) fn answer_tells_dirty(answer: Answer) -> bool
     ensures { result ≡ answer_tells_dirty answer }
@@ -372,6 +424,11 @@ pub(crate) fn tells_dirty(act: Act) -> bool
     match act {
         Act::Request(kind) => matches!(kind, Kind::WriteBackFull | Kind::WriteCleanFull),
         Act::SnpResp(answer) => answer_tells_dirty(answer),
-        Act::Resend(_) | Act::CompAck | Act::CopyBackWrData(_) | Act::NonCopyBackWrData => false,
+        Act::Resend(_)
+        | Act::CompAck
+        | Act::CopyBackWrData(_)
+        | Act::NonCopyBackWrData
+        | Act::Load
+        | Act::Store => false,
     }
 }

@@ -1,0 +1,72 @@
+//! Loads and stores of a trace, among the flits of their lines.
+
+ghost use Rattle.std.specs.Prelude.{◌≡◌, OnOk};
+ghost use Rattle.chi_observe.specs.Watched.{IsAccessWatched, IsWatched, access_agent, access_settled, watched};
+
+use crate::events::{AccessEvent, Event, flit_by};
+use crate::ids::Sides;
+use crate::lines::{LineNews, LineStop, home_of, tell};
+use crate::nodes::{add_requester, agent_of};
+use crate::reasons::LineReason;
+use crate::watch::{Aside, Watch, WatchFault, WatchStop, mark_of};
+use chi_flit::Agent;
+use chi_observer::Reason;
+use chi_trace::NodeId;
+use std::alloc::{AllocError, Allocator};
+
+impl<A: Allocator> Watch<A> {
+    /// The agent that a processor is at a line of this home.
+    pub(crate) fn agent_at(&self, event: &AccessEvent, home: NodeId) -> Option<Agent>
+        ensures { result ≡ access_agent (watched self.now) event.now home }
+    {
+        let sides = Sides {
+            requester: event.requester,
+            home,
+        };
+        agent_of(&self.requesters, &self.homes, sides)
+    }
+
+    /// What a load or a store of this agent leaves, but of its line.
+    fn settle_access(
+        &mut self,
+        event: &AccessEvent,
+        agent: Option<Agent>,
+        mark: Option<Aside>,
+    ) -> Result<(), AllocError>
+        ensures { OnOk result
+            (watched self.new ≡ access_settled (watched self.old) event.now agent mark) }
+    {
+        let Some(counts) = self.counts.with_access(mark) else {
+            return Err(AllocError);
+        };
+        add_requester(&mut self.requesters, agent, event.requester)?;
+        self.counts = counts;
+        Ok(())
+    }
+}
+
+impl<A: Allocator + Copy> Watch<A> {
+    /// Takes a load or a store at a line of this home.
+    fn take_access_at(&mut self, event: &AccessEvent, home: NodeId) -> Result<(), WatchStop>
+        ensures { IsAccessWatched (watched self.old) (watched self.new) event.now home result }
+    {
+        let agent = self.agent_at(event, home);
+        let news = LineNews::Flit(flit_by(event.tells, agent));
+        let mark = mark_of(&self.lines, event.line, news, event.number);
+        match tell(&mut self.lines, event.line, home, news, event.number) {
+            Ok(_) => Ok(self.settle_access(event, agent, mark)?),
+            Err(LineStop::Refused(reason)) => { Err(WatchStop::Fault(WatchFault::Line(reason))) }
+            Err(LineStop::NoMemory) => Err(WatchStop::NoMemory),
+        }
+    }
+
+    /// Takes a load or a store: none of a line that no flit has touched, as no cache has a copy of it.
+    pub(crate) fn take_access(&mut self, event: &AccessEvent) -> Result<(), WatchStop>
+        ensures { IsWatched (watched self.old) (watched self.new) (Event.Access event.now) result }
+    {
+        match home_of(&self.lines, event.line) {
+            Some(home) => self.take_access_at(event, home),
+            None => Err(WatchStop::Fault(WatchFault::Line(LineReason::Rule(Reason::NotSent)))),
+        }
+    }
+}
