@@ -3,8 +3,11 @@
 //! Source: `docs/OBSERVER.md`, "A trace of many lines".
 #![tactic(auto)]
 
+mod benches;
+mod bounded;
 mod credits;
 mod events;
+mod facts;
 mod ids;
 mod lines;
 mod malformed;
@@ -20,11 +23,15 @@ mod reports;
 mod seen;
 mod steps;
 mod stream;
+mod tallies;
 mod texts;
 mod watch;
 
+pub use benches::{BenchWatch, FirstStop, Judged};
+pub use bounded::{BoundedStop, BoundedWatch, Room};
 pub use credits::{Account, CreditTypes};
 pub use events::{Event, LineEvent, Tells};
+pub use facts::{FaultFacts, Ground};
 pub use ids::{CacheLine, IdKey, OpenId, Purpose, Sides};
 pub use observations::observe;
 pub use progress::{Nobody, Progress};
@@ -33,4 +40,5 @@ pub use reports::{ObserveOutcome, ObserveReport};
 pub use seen::{event_of, line_of};
 pub use steps::{IdStep, WatchOptions};
 pub use stream::{TextStop, TraceStop};
+pub use tallies::{IdForm, Tally};
 pub use watch::{Aside, Counts, Watch, WatchFault, WatchStop};
