@@ -12,7 +12,10 @@ pub mod Events
 pub mod Nodes
 pub mod Watched
 pub mod Seen
+pub mod Bounded
+pub mod Benches
 pub mod Streams
 pub mod Pending
+pub mod Tallies
 pub mod Recent
 pub mod Reports

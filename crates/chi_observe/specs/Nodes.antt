@@ -27,5 +27,8 @@ abbrev pub with_requester : Option Agent → NodeId → List NodeId → List Nod
 with_requester None node requesters = requesters
 with_requester (Some agent) node requesters = if agent.0 == length requesters then requesters ++ node ∷ [] else requesters
 
+abbrev pub adds_home : Option Agent → NodeId → List NodeId → Bool
+adds_home agent node homes = is_some agent && is_none (position (is_node node) homes)
+
 abbrev pub with_home : Option Agent → NodeId → List NodeId → List NodeId
-with_home agent node homes = if is_some agent && is_none (position (is_node node) homes) then homes ++ node ∷ [] else homes
+with_home agent node homes = if adds_home agent node homes then homes ++ node ∷ [] else homes

@@ -5,8 +5,11 @@
 
 mod accesses;
 mod beats;
+mod benches;
+mod bounded;
 mod credits;
 mod events;
+mod facts;
 mod grants;
 mod ids;
 mod lines;
@@ -24,12 +27,16 @@ mod seen;
 mod steps;
 mod stream;
 mod tables;
+mod tallies;
 mod texts;
 mod unknown;
 mod watch;
 
+pub use benches::{BenchWatch, FirstStop, Judged};
+pub use bounded::{BoundedStop, BoundedWatch, Room};
 pub use credits::{Account, CreditTypes};
 pub use events::{AccessEvent, Event, LineEvent, Tells};
+pub use facts::{FaultFacts, Ground};
 pub use ids::{CacheLine, IdKey, OpenId, Purpose, Sides};
 pub use observations::observe;
 pub use progress::{Nobody, Progress};
@@ -38,4 +45,5 @@ pub use reports::{ObserveOutcome, ObserveReport};
 pub use seen::{event_of, line_of};
 pub use steps::{IdStep, WatchOptions};
 pub use stream::{TextStop, TraceStop};
+pub use tallies::{IdForm, Tally};
 pub use watch::{Aside, Counts, Watch, WatchFault, WatchStop};

@@ -43,6 +43,9 @@ pub(crate) enum LineNews {
 /// The lines that flits have touched, each under its number.
 pub(crate) type LineTable<A> = IndexMap<u64, LineSeen<A>, BuildHasherDefault<FoldHasher>, A>;
 
+/// Memory for the marks of lines that no flit has touched.
+pub(crate) type SpareMarks<A> = Vec<Vec<usize, A>, A>;
+
 /// Why a line wasn't told of a flit.
 #[derive(Clone, Copy, Debug, PartialEq, Eq)]
 pub(crate) enum LineStop {
@@ -62,7 +65,7 @@ impl From<AllocError> for LineStop {
 
 impl<A: Allocator> LineSeen<A> {
     /// A line that no flit has touched before the one with this number.
-    fn new(alloc: A, home: NodeId, number: usize) -> LineSeen<A>
+    fn new(memory: Vec<usize, A>, home: NodeId, number: usize) -> LineSeen<A>
         ensures { line_state result ≡ opened_line number home }
     {
         LineSeen {
@@ -70,7 +73,7 @@ impl<A: Allocator> LineSeen<A> {
             aside: false,
             held: false,
             observer: Observer::new(),
-            marks: Marks::new(alloc, number),
+            marks: Marks::new(memory, number),
         }
     }
 
@@ -186,6 +189,7 @@ pub(crate) fn is_put_aside<A: Allocator>(
 /// line doesn't take it nothing changes.
 pub(crate) fn tell<A: Allocator + Copy>(
     lines: &mut LineTable<A>,
+    spare: &mut SpareMarks<A>,
     line: CacheLine,
     home: NodeId,
     news: LineNews,
@@ -198,13 +202,14 @@ pub(crate) fn tell<A: Allocator + Copy>(
             Ok(()) => Ok(false),
             Err(stop) => Err(stop),
         },
-        None => tell_new(lines, line, home, news, number),
+        None => tell_new(lines, spare, line, home, news, number),
     }
 }
 
 /// The same of a line that no flit has touched.
 fn tell_new<A: Allocator + Copy>(
     lines: &mut LineTable<A>,
+    spare: &mut SpareMarks<A>,
     line: CacheLine,
     home: NodeId,
     news: LineNews,
@@ -213,7 +218,8 @@ fn tell_new<A: Allocator + Copy>(
     requires { lookup (nat_eq line.0) lines.old.entries ≡ None }
     ensures { IsTold (lines_in lines.old.entries) (lines_in lines.new.entries) number line home news result }
 {
-    let mut seen = LineSeen::new(*lines.allocator(), home, number);
+    let memory = spare.pop().unwrap_or(Vec::new(*lines.allocator()));
+    let mut seen = LineSeen::new(memory, home, number);
     if let Err(stop) = seen.take(home, news, number) {
         return Err(stop);
     }

@@ -123,13 +123,15 @@ fn put_copy<A: Allocator>(
 }
 
 impl<A: Allocator> Marks<A> {
-    /// Those of a line whose first flit has this number, before it.
-    pub(crate) fn new(alloc: A, first: usize) -> Marks<A>
+    /// Those of a line whose first flit has this number, before it, in this memory.
+    pub(crate) fn new(memory: Vec<usize, A>, first: usize) -> Marks<A>
         ensures { marked result ≡ nothing_marked first }
     {
+        let mut copies = memory;
+        copies.clear();
         Marks {
             first,
-            copies: Vec::new(alloc),
+            copies,
             words: 0,
         }
     }

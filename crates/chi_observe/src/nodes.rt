@@ -1,7 +1,7 @@
 //! The nodes of a trace: its requesters, in the order of their first flits, and its homes.
 
 ghost use Rattle.std.specs.Prelude.{◌≡◌, OnOk, is_some, position};
-ghost use Rattle.chi_observe.specs.Nodes.{agent_of, is_node, is_one_sided, numbered, with_home, with_requester};
+ghost use Rattle.chi_observe.specs.Nodes.{adds_home, agent_of, is_node, is_one_sided, numbered, with_home, with_requester};
 
 use crate::ids::Sides;
 use chi_flit::Agent;
@@ -73,6 +73,13 @@ pub(crate) fn add_requester<A: Allocator>(
     Ok(())
 }
 
+/// Whether a flit of this agent is the first with the home.
+pub(crate) fn adds_home(agent: Option<Agent>, homes: &[NodeId], node: NodeId) -> bool
+    ensures { result ≡ adds_home agent node homes.now }
+{
+    agent.is_some() && place_of(homes, node).is_none()
+}
+
 /// The home is known from now on, if the requester is this agent.
 pub(crate) fn add_home<A: Allocator>(
     homes: &mut Vec<NodeId, A>,
@@ -81,7 +88,7 @@ pub(crate) fn add_home<A: Allocator>(
 ) -> Result<(), AllocError>
     ensures { OnOk result (homes.new.items ≡ with_home agent node homes.old.items) }
 {
-    if agent.is_some() && place_of(homes, node).is_none() {
+    if adds_home(agent, homes, node) {
         homes.push(node)?;
     }
     Ok(())

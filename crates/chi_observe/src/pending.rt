@@ -32,7 +32,7 @@ fn is_cancelled_at<A: Allocator>(seen: &LineSeen<A>, agent: Agent) -> bool
 }
 
 /// Whether credits are owed, or unused.
-fn is_account_open(account: &Account) -> bool
+pub(crate) fn is_account_open(account: &Account) -> bool
     ensures { result ≡ is_account_open account.now }
 {
     account.owed() > 0 || account.unused() > 0
@@ -56,7 +56,7 @@ impl<A: Allocator> Watch<A> {
     }
 
     /// Whether an id is open that is of a line which isn't set aside.
-    fn is_id_open(&self, id: &OpenId) -> bool
+    pub(crate) fn is_id_open(&self, id: &OpenId) -> bool
         ensures { result ≡ is_id_open (watched self.now) id.now }
     {
         !self.is_cancelled(id) && !is_aside(&self.lines, id.line)

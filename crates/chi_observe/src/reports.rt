@@ -115,13 +115,14 @@ impl<A: Allocator + Copy> Watch<A> {
         let front = numbered(alloc, seen.line)?;
         let mut rest = String::new(alloc);
         self.write_untaken(&mut rest, seen, fault)?;
+        writeln!(rest, "")?;
         let line = self.place_of(&event_of(seen));
         write_recent(&mut rest, notes.recent.of(line))?;
         joined(front, &rest)
     }
 
     /// Puts a flit, its line and why it isn't taken behind the text.
-    fn write_untaken(
+    pub(crate) fn write_untaken(
         &self,
         text: &mut String<A>,
         seen: &AnySeen,
@@ -136,8 +137,7 @@ impl<A: Allocator + Copy> Watch<A> {
             write!(text, " at {line}")?;
         }
         write!(text, ": ")?;
-        self.write_fault(text, &event, fault)?;
-        writeln!(text, "")
+        self.write_fault(text, &event, fault)
     }
 
     /// What is told of a trace whose flits are all taken, and of which this came.

@@ -149,7 +149,7 @@ fn pair_of(observer: &Observer, one: usize, other: usize) -> Observer {
 }
 
 /// Whether the other agent's copy alone doesn't let the flit be taken.
-fn is_in_the_way(observer: &Observer, flit: Flit, other: usize) -> bool {
+pub(crate) fn is_in_the_way(observer: &Observer, flit: Flit, other: usize) -> bool {
     let agent = usize::from(teller_of(flit).0);
     let mut pair = pair_of(observer, agent, other);
     other != agent && matches!(pair.take(flit), Err(Reason::OtherCopy))
@@ -288,7 +288,7 @@ impl<A: Allocator> Known<'_, A> {
 }
 
 /// The words of a flit.
-fn words_of(flit: Flit) -> Data {
+pub(crate) fn words_of(flit: Flit) -> Data {
     match flit {
         Flit::Up(sent) => sent.shown,
         Flit::Down(given) => given.shown,
@@ -404,7 +404,7 @@ fn named_line(event: &LineEvent) -> Option<CacheLine> {
 }
 
 /// The id that a reason rests on, where it is one that is open.
-fn key_of(reason: IdReason, event: &Event) -> Option<IdKey> {
+pub(crate) fn key_of(reason: IdReason, event: &Event) -> Option<IdKey> {
     match (reason, event) {
         (IdReason::InUse(key), _) => Some(key),
         (IdReason::Unfinished(key), _) => Some(key),
@@ -440,7 +440,7 @@ impl<A: Allocator> Watch<A> {
     }
 
     /// What a flit tells its line: data that came in beats all their words.
-    fn told_by(&self, event: &LineEvent) -> Tells {
+    pub(crate) fn told_by(&self, event: &LineEvent) -> Tells {
         match self.allowed(event) {
             Ok(change) => match change.part {
                 Part::Last(told) => told,
@@ -451,7 +451,7 @@ impl<A: Allocator> Watch<A> {
     }
 
     /// The requester of a flit, and what its line's observer is told; none of a credit, and of what isn't judged.
-    fn judged_in(&self, event: &Event) -> Option<(NodeId, Flit)> {
+    pub(crate) fn judged_in(&self, event: &Event) -> Option<(NodeId, Flit)> {
         match event {
             Event::Line(event) => {
                 let agent = agent_of(&self.requesters, &self.homes, event.sides);

@@ -13,7 +13,7 @@ ghost use Rattle.chi_observe.specs.Watched.{IsCreditWatched, IsFlitWatched, IsWa
 use crate::credits::{AccountTable, Booking, account_numbers};
 use crate::events::{Event, LineEvent, Tells, news_of};
 use crate::ids::{CacheLine, IdKey, IdTable, OpenId, Sides, numbers_of};
-use crate::lines::{LineNews, LineStop, LineTable, is_aside, is_put_aside, tell};
+use crate::lines::{LineNews, LineStop, LineTable, SpareMarks, is_aside, is_put_aside, tell};
 use crate::nodes::{add_home, add_requester, agent_of};
 use crate::reasons::{IdReason, LineReason};
 use crate::steps::WatchOptions;
@@ -58,6 +58,8 @@ pub struct Watch<A: Allocator> {
     pub(crate) ids: IdTable<A>,
     pub(crate) accounts: AccountTable<A>,
     pub(crate) lines: LineTable<A>,
+    /// Memory that was taken for lines to come.
+    pub(crate) spare: SpareMarks<A>,
     pub(crate) counts: Counts,
 }
 
@@ -90,6 +92,15 @@ impl From<AllocError> for WatchStop {
 }
 
 impl Counts {
+    /// Nothing was seen.
+    pub(crate) const NOTHING: Counts = Counts {
+        flits: 0,
+        accesses: 0,
+        lines: 0,
+        aside: 0,
+        first_aside: None,
+    };
+
     /// The counts behind a flit, which is the first of its line or isn't; `None` where a number would pass 2^64.
     fn with_first(self, fresh: bool) -> Option<Counts>
         ensures { IfSome result (λ counts. counts ≡ counts_first fresh self) }
@@ -241,20 +252,15 @@ impl<A: Allocator + Copy> Watch<A> {
             ids: IndexMap::new(alloc),
             accounts: IndexMap::new(alloc),
             lines: IndexMap::new(alloc),
-            counts: Counts {
-                flits: 0,
-                accesses: 0,
-                lines: 0,
-                aside: 0,
-                first_aside: None,
-            },
+            spare: Vec::new(alloc),
+            counts: Counts::NOTHING,
         }
     }
 }
 
 impl<A: Allocator> Watch<A> {
     /// What is open, and which lines are set aside.
-    fn tables(&self) -> Tables<'_, A>
+    pub(crate) fn tables(&self) -> Tables<'_, A>
         ensures options { result.options ≡ self.now.options }
         ensures table { table_of result ≡ table_in (watched self.now) }
     {
@@ -340,7 +346,7 @@ impl<A: Allocator> Watch<A> {
 
 impl<A: Allocator + Copy> Watch<A> {
     /// The agent that a flit's requester is; none where the flit isn't judged.
-    fn agent_in(&self, event: &LineEvent) -> Option<Agent>
+    pub(crate) fn agent_in(&self, event: &LineEvent) -> Option<Agent>
         ensures { result ≡ agent_in (watched self.now) event.now }
     {
         match event.tells {
@@ -362,7 +368,14 @@ impl<A: Allocator + Copy> Watch<A> {
         let news = news_of(event.tells, change.part, agent);
         let mark = mark_of(&self.lines, change.line, news, event.number);
         let home = event.sides.home;
-        match tell(&mut self.lines, change.line, home, news, event.number) {
+        match tell(
+            &mut self.lines,
+            &mut self.spare,
+            change.line,
+            home,
+            news,
+            event.number,
+        ) {
             Ok(fresh) => Ok(self.settle(event, change, agent, mark, fresh)?),
             Err(LineStop::Refused(reason)) => Err(WatchStop::Fault(WatchFault::Line(reason))),
             Err(LineStop::NoMemory) => Err(WatchStop::NoMemory),

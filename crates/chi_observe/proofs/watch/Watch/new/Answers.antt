@@ -1,0 +1,15 @@
+-- Each table is empty.
+use Rattle.chi_observe.specs.Lines.{lines_in}
+use Rattle.chi_observe.specs.Watched.{nothing_counted}
+use Rattle.chi_observe.proofs.watch.Watch.new.Goals as goal
+
+pub returns : goal.returns
+returns g c = λ i. record {
+  options = c.args.options;
+  requesters = c.new.ensures.items i;
+  homes = c.new-2.ensures.items i;
+  ids = c.new-3.ensures.empty i;
+  accounts = c.new-4.ensures.empty i;
+  lines = lines_in (c.new-5.ensures.empty i);
+  counts = nothing_counted;
+}

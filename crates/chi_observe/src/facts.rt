@@ -1,0 +1,251 @@
+//! What the first flit that a bench's watch didn't take rests on.
+
+ghost use Rattle.std.specs.Prelude.{◌≡◌};
+ghost use Rattle.chi_observe.specs.Benches.{IsToldOf, benched, sides_in};
+ghost use Rattle.chi_observe.specs.Seen.{event_of};
+
+use crate::benches::{BenchWatch, FirstStop};
+use crate::events::Event;
+use crate::ids::{CacheLine, IdKey, Sides, find_id};
+use crate::lines::LineSeen;
+use crate::marks::teller_of;
+use crate::reasons::{IdReason, LineReason};
+use crate::seen::event_of;
+use crate::texts::{is_in_the_way, key_of, words_of};
+use crate::watch::{Watch, WatchFault};
+use chi_flit::Data;
+use chi_observer::{AGENTS, Flit, Observer, Reason, Told};
+use chi_trace::{AnySeen, NodeId};
+use std::alloc::Allocator;
+
+/// What a reason rests on.
+/// Source: `docs/OBSERVER.md`, "A watch with a room".
+#[derive(Clone, Copy, Debug, PartialEq, Eq)]
+pub struct Ground {
+    /// The id that a reason of ids rests on.
+    pub key: Option<IdKey>,
+    /// The number of the flit that has told it; 0 where none has.
+    pub since: usize,
+    /// Another node: the line's home, or the one whose copy is in the way.
+    pub other: Option<NodeId>,
+    /// What was told of a copy: of the one that is in the way, or of the requester's.
+    pub told: Option<Told>,
+    /// The words that are known, and those of the flit, where they are others.
+    pub words: Option<(Data, Data)>,
+}
+
+/// The first flit that isn't taken, and what its reason rests on.
+/// Source: `docs/OBSERVER.md`, "A watch with a room".
+#[derive(Clone, Copy, Debug, PartialEq, Eq)]
+pub struct FaultFacts {
+    pub number: usize,
+    pub fault: WatchFault,
+    pub sides: Sides,
+    /// Its line, where it is known.
+    pub line: Option<CacheLine>,
+    pub ground: Ground,
+}
+
+/// A line's flit that isn't taken, and what is known of the line.
+#[derive(Drop)]
+struct Untaken<'a, A: Allocator> {
+    flit: Flit,
+    observer: &'a Observer,
+    /// None of a line that no flit has touched.
+    seen: Option<&'a LineSeen<A>>,
+    requesters: &'a [NodeId],
+}
+
+impl Ground {
+    /// It rests on nothing that a flit has told.
+    const NONE: Ground = Ground {
+        key: None,
+        since: 0,
+        other: None,
+        told: None,
+        words: None,
+    };
+}
+
+/// The nodes that a flit of this source is between; of a load or a store its source alone.
+fn sides_in(event: &Event, source: NodeId) -> Sides
+    ensures { result ≡ sides_in event.now source }
+{
+    match event {
+        Event::Line(event) => event.sides,
+        Event::Granted(sides, _) => *sides,
+        Event::Returned(sides, _) => *sides,
+        _ => Sides {
+            requester: source,
+            home: source,
+        },
+    }
+}
+
+/// The id that a reason rests on, whether it is open or not.
+fn named_by(reason: IdReason, event: &Event) -> Option<IdKey> {
+    match reason {
+        IdReason::NotOpen(key) => Some(key),
+        _ => key_of(reason, event),
+    }
+}
+
+impl<A: Allocator> Untaken<'_, A> {
+    /// What was told of an agent's copy, and by which flit.
+    fn copy(&self, agent: usize) -> Ground {
+        let told = match self.observer.agents.get(agent) {
+            Some(seen) => Some(seen.told),
+            None => None,
+        };
+        let since = match self.seen {
+            Some(seen) => match seen.marks.copies.get(agent) {
+                Some(number) => *number,
+                None => 0,
+            },
+            None => 0,
+        };
+        Ground {
+            told,
+            since,
+            ..Ground::NONE
+        }
+    }
+
+    /// The first other agent whose copy is in the way.
+    fn in_the_way(&self) -> Ground {
+        for other in 0..AGENTS {
+            if let Some(node) = self.requesters.get(other) {
+                if is_in_the_way(self.observer, self.flit, other) {
+                    return Ground {
+                        other: Some(*node),
+                        ..self.copy(other)
+                    };
+                }
+            }
+        }
+        Ground::NONE
+    }
+
+    /// The words that are known, and which flit has told them.
+    fn words(&self) -> Ground {
+        let since = match self.seen {
+            Some(seen) => seen.marks.words,
+            None => 0,
+        };
+        match self.observer.home {
+            Some(known) => Ground {
+                since,
+                words: Some((known, words_of(self.flit))),
+                ..self.copy(usize::from(teller_of(self.flit).0))
+            },
+            None => Ground::NONE,
+        }
+    }
+
+    /// What a rule's reason rests on.
+    fn ground(&self, reason: Reason) -> Ground {
+        match reason {
+            Reason::OtherCopy => self.in_the_way(),
+            Reason::OtherWords => self.words(),
+            _ => self.copy(usize::from(teller_of(self.flit).0)),
+        }
+    }
+}
+
+impl<A: Allocator> Watch<A> {
+    /// What a reason of ids or credits rests on.
+    fn id_ground(&self, event: &Event, reason: IdReason) -> Ground {
+        let key = named_by(reason, event);
+        let since = match key {
+            Some(key) => match find_id(&self.ids, key) {
+                Some(id) => id.since,
+                None => 0,
+            },
+            None => 0,
+        };
+        Ground {
+            key,
+            since,
+            ..Ground::NONE
+        }
+    }
+
+    /// What it rests on that another node is the line's home.
+    fn home_ground(&self, line: CacheLine, home: NodeId) -> Ground {
+        let since = match self.lines.get(&line.0) {
+            Some(seen) => seen.marks.first,
+            None => 0,
+        };
+        Ground {
+            other: Some(home),
+            since,
+            ..Ground::NONE
+        }
+    }
+
+    /// What a rule's reason rests on, of a flit of this line.
+    fn rule_ground(&self, event: &Event, line: CacheLine, reason: Reason) -> Ground {
+        let Some((_, flit)) = self.judged_in(event) else {
+            return Ground::NONE;
+        };
+        let untouched = Observer::new();
+        let seen = self.lines.get(&line.0);
+        let observer = match seen {
+            Some(seen) => &seen.observer,
+            None => &untouched,
+        };
+        let untaken = Untaken {
+            flit,
+            observer,
+            seen,
+            requesters: &self.requesters,
+        };
+        untaken.ground(reason)
+    }
+
+    /// What a fault rests on.
+    fn ground(&self, event: &Event, line: Option<CacheLine>, fault: WatchFault) -> Ground {
+        match (fault, line) {
+            (WatchFault::Ids(reason), _) => self.id_ground(event, reason),
+            (WatchFault::Line(LineReason::OtherHome(home)), Some(line)) => {
+                self.home_ground(line, home)
+            }
+            (WatchFault::Line(LineReason::Rule(reason)), Some(line)) => {
+                self.rule_ground(event, line, reason)
+            }
+            (WatchFault::Line(_), None) => Ground::NONE,
+        }
+    }
+
+    /// What is told of a flit that isn't taken.
+    fn facts(&self, seen: &AnySeen, fault: WatchFault) -> FaultFacts
+        ensures number { result.number ≡ seen.now.line }
+        ensures fault { result.fault ≡ fault }
+        ensures sides { result.sides ≡ sides_in (event_of seen.now) seen.now.source }
+    {
+        let event = event_of(seen);
+        let line = self.place_of(&event);
+        FaultFacts {
+            number: seen.line,
+            fault,
+            sides: sides_in(&event, seen.source),
+            line,
+            ground: self.ground(&event, line, fault),
+        }
+    }
+}
+
+impl<A: Allocator> BenchWatch<A> {
+    /// What is told of the first flit that isn't taken, if there is one. What its reason rests on no clause says: it is
+    /// tested.
+    /// Source: `docs/OBSERVER.md`, "A watch with a room".
+    pub fn fault(&self) -> Option<FaultFacts>
+        ensures { IsToldOf (benched self.now).stop result }
+    {
+        match &self.stop {
+            Some(FirstStop::Untaken(seen, fault)) => Some(self.bounded.watch.facts(seen, *fault)),
+            Some(FirstStop::NoMemory) => None,
+            None => None,
+        }
+    }
+}
