@@ -3,3 +3,4 @@ pub mod StreamLemmas
 pub mod ReportLemmas
 pub mod MarkLemmas
 pub mod LineLemmas
+mod RoomLemmas

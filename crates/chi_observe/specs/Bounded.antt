@@ -1,6 +1,6 @@
 -- A watch with a room: how much each table holds at most, and which flits it has room for (docs/OBSERVER.md, "A watch with a
 -- room").
-use Rattle.std.specs.Prelude.{◌≡◌, ℕ, ◌+◌, ◌-◌, ◌==◌, ◌&&◌, ◌||◌, Bool, true, false, not, nat_le, nat_lt, List, Option, Some, None, Result, Ok, Err, if◌then◌else◌, is_none, is_some, length}
+use Rattle.std.specs.Prelude.{◌≡◌, ℕ, ◌+◌, ◌-◌, ◌≤◌, ◌==◌, ◌&&◌, ◌||◌, Bool, true, false, not, nat_le, nat_lt, List, Option, Some, None, Result, Ok, Err, if◌then◌else◌, is_none, is_some, length}
 use Rattle.std.specs.Map.{lookup}
 use Rattle.chi_flit.specs.declared.numbers.Agent.{Agent}
 use Rattle.chi_trace.specs.declared.fields.NodeId.{NodeId}
@@ -149,3 +149,17 @@ IsBoundedTaken old new e (Ok done) = IsStepped old new e
 IsBoundedTaken old new e (Err (Fault fault)) = IsRefused old new e fault
 IsBoundedTaken old new e (Err Full) = IsFull old new e
 IsBoundedTaken old new e (Err NoMemory) = Unit {0}
+
+-- what each table holds is within the room: so it is of a new watch, and behind each line of a trace for which there is room
+pub record IsWithin (room : Room) (w : Watched) : Type 0 where
+  pub requesters : length w.requesters ≤ room.requesters
+  pub homes : length w.homes ≤ room.homes
+  pub ids : length w.ids ≤ room.ids
+  pub accounts : length w.accounts ≤ room.accounts
+  pub lines : w.counts.lines ≤ room.lines
+
+abbrev pub StartsWithin : Type 0
+StartsWithin = (room : Room) (options : WatchOptions) → IsWithin room (nothing_watched options)
+
+abbrev pub StaysWithin : Type 0
+StaysWithin = (room : Room) (w w' : Watched) → IsWithin room w → (e : Event) → fits room w e ≡ true → step w e ≡ Some w' → IsWithin room w'

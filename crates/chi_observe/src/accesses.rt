@@ -53,7 +53,14 @@ impl<A: Allocator + Copy> Watch<A> {
         let agent = self.agent_at(event, home);
         let news = LineNews::Flit(flit_by(event.tells, agent));
         let mark = mark_of(&self.lines, event.line, news, event.number);
-        match tell(&mut self.lines, event.line, home, news, event.number) {
+        match tell(
+            &mut self.lines,
+            &mut self.spare,
+            event.line,
+            home,
+            news,
+            event.number,
+        ) {
             Ok(_) => Ok(self.settle_access(event, agent, mark)?),
             Err(LineStop::Refused(reason)) => { Err(WatchStop::Fault(WatchFault::Line(reason))) }
             Err(LineStop::NoMemory) => Err(WatchStop::NoMemory),

@@ -2,4 +2,6 @@
 #![tactic(auto)]
 
 #[cfg(test)]
+mod rooms;
+#[cfg(test)]
 mod traces;
