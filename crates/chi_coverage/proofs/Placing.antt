@@ -85,7 +85,7 @@ stage_low : (x : Stage) → stage_place x ≤ 4
 stage_low stages.Sent = omega arith
 stage_low stages.RetryAck = omega arith
 stage_low stages.Retried = omega arith
-stage_low stages.SentAgain = omega arith
+stage_low stages.Resent = omega arith
 stage_low stages.Waiting = omega arith
 
 arrival_low : (x : Arrival) → arrival_place x ≤ 2
@@ -146,7 +146,7 @@ reason_low reasons.Pending = omega arith
 reason_low reasons.SlotInUse = omega arith
 reason_low reasons.NothingPending = omega arith
 reason_low reasons.NotRetried = omega arith
-reason_low reasons.SentAgain = omega arith
+reason_low reasons.Resent = omega arith
 reason_low reasons.Snooping = omega arith
 reason_low reasons.CompAck = omega arith
 reason_low reasons.WriteData = omega arith

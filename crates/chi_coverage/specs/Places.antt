@@ -82,7 +82,7 @@ abbrev pub stage_place : Stage → ℕ
 stage_place stages.Sent = 0
 stage_place stages.RetryAck = 1
 stage_place stages.Retried = 2
-stage_place stages.SentAgain = 3
+stage_place stages.Resent = 3
 stage_place stages.Waiting = 4
 
 abbrev pub arrival_place : Arrival → ℕ
@@ -143,7 +143,7 @@ reason_place reasons.Pending = 14
 reason_place reasons.SlotInUse = 15
 reason_place reasons.NothingPending = 16
 reason_place reasons.NotRetried = 17
-reason_place reasons.SentAgain = 18
+reason_place reasons.Resent = 18
 reason_place reasons.Snooping = 19
 reason_place reasons.CompAck = 20
 reason_place reasons.WriteData = 21

@@ -101,7 +101,7 @@ fn stage_place(stage: Stage) -> usize
         Stage::Sent => 0,
         Stage::RetryAck => 1,
         Stage::Retried => 2,
-        Stage::SentAgain => 3,
+        Stage::Resent => 3,
         Stage::Waiting => 4,
     }
 }
@@ -186,7 +186,7 @@ fn reason_place(reason: Reason) -> usize
         Reason::SlotInUse => 15,
         Reason::NothingPending => 16,
         Reason::NotRetried => 17,
-        Reason::SentAgain => 18,
+        Reason::Resent => 18,
         Reason::Snooping => 19,
         Reason::CompAck => 20,
         Reason::WriteData => 21,
