@@ -4,6 +4,7 @@ pub mod Slots
 pub mod Tried
 pub mod Choosing
 pub mod Marked
+pub mod Enabled
 pub mod Returns
 pub mod Counts
 pub mod Plays

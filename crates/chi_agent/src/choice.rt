@@ -2,6 +2,7 @@
 
 ghost use Rattle.std.specs.Prelude.{◌≡◌, ◌<◌, ◌/◌, IfSome};
 ghost use Rattle.chi_agent.specs.Choice.{choice, choice_at, drawn_line, IsOwnChoice};
+ghost use Rattle.chi_agent.specs.declared.choice.Call.TheVariants as variants;
 
 use crate::deliveries::delivery_at;
 use crate::operations::{OperationPlace, Operations};
@@ -21,6 +22,15 @@ pub enum Call {
     Step(Step),
     /// The arrival of its request that is in flight.
     Arrival,
+}
+
+impl Default for Call {
+    ghost is_default = { λ call. call ≡ variants.Arrival };
+
+    // What the unused places of a list of calls hold.
+    fn default() -> Call {
+        Call::Arrival
+    }
 }
 
 /// What is done in a turn.

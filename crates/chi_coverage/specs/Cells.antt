@@ -66,7 +66,7 @@ reason_text reasons.Pending = codes "3 a request is pending"
 reason_text reasons.SlotInUse = codes "3 the slot is in use"
 reason_text reasons.NothingPending = codes "4 nothing is pending"
 reason_text reasons.NotRetried = codes "4 it wasn't retried"
-reason_text reasons.SentAgain = codes "4 it was sent again"
+reason_text reasons.Resent = codes "4 it was sent again"
 reason_text reasons.Snooping = codes "5 snooping"
 reason_text reasons.CompAck = codes "5 compack"
 reason_text reasons.WriteData = codes "5 wrdata"
@@ -91,7 +91,7 @@ abbrev pub stage_text : Stage → List ℕ
 stage_text stages.Sent = codes "its first attempt in flight"
 stage_text stages.RetryAck = codes "RetryAck in flight"
 stage_text stages.Retried = codes "Retried"
-stage_text stages.SentAgain = codes "its second attempt in flight"
+stage_text stages.Resent = codes "its second attempt in flight"
 stage_text stages.Waiting = codes "waiting"
 
 abbrev pub form_text : Form → List ℕ

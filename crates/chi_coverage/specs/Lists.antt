@@ -77,8 +77,8 @@ refused_table =
     ∷ (verbs.Dbid, reasons.Agent ∷ reasons.Line ∷ reasons.NoFlit ∷ [])
     ∷ (verbs.Ack, reasons.Agent ∷ reasons.Line ∷ reasons.NoFlit ∷ [])
     ∷ (verbs.WrData, reasons.Agent ∷ reasons.Line ∷ reasons.NoFlit ∷ [])
-    ∷ (verbs.Resend, reasons.Agent ∷ reasons.Line ∷ reasons.NothingPending ∷ reasons.NotRetried ∷ reasons.SentAgain ∷ reasons.NotSendable ∷ reasons.NoCredit ∷ [])
-    ∷ (verbs.Cancel, reasons.Agent ∷ reasons.Line ∷ reasons.NothingPending ∷ reasons.NotRetried ∷ reasons.SentAgain ∷ reasons.NotCopyBack ∷ reasons.Sendable ∷ [])
+    ∷ (verbs.Resend, reasons.Agent ∷ reasons.Line ∷ reasons.NothingPending ∷ reasons.NotRetried ∷ reasons.Resent ∷ reasons.NotSendable ∷ reasons.NoCredit ∷ [])
+    ∷ (verbs.Cancel, reasons.Agent ∷ reasons.Line ∷ reasons.NothingPending ∷ reasons.NotRetried ∷ reasons.Resent ∷ reasons.NotCopyBack ∷ reasons.Sendable ∷ [])
     ∷ (verbs.See, reasons.Agent ∷ [])
     ∷ (verbs.GiveBack, reasons.Agent ∷ reasons.Type ∷ [])
     ∷ (verbs.Tend, reasons.Agent ∷ reasons.Type ∷ [])
@@ -150,7 +150,7 @@ crossed_table =
     ∷ []
 
 abbrev pub every_stage : List Stage
-every_stage = stages.Sent ∷ stages.RetryAck ∷ stages.Retried ∷ stages.SentAgain ∷ stages.Waiting ∷ []
+every_stage = stages.Sent ∷ stages.RetryAck ∷ stages.Retried ∷ stages.Resent ∷ stages.Waiting ∷ []
 
 abbrev pub snooped_cells : List Cell
 snooped_cells = pairs (λ snoop state. cells.Snooped state snoop) every_snoop every_state

@@ -69,7 +69,7 @@ abbrev pub is_second : Scene → Bool
 is_second scene = is_second_attempt scene.flits.req
 
 abbrev pub retry_reason : Scene → Reason
-retry_reason scene = if is_none scene.pending then reasons.NothingPending else (if is_second scene then reasons.SentAgain else reasons.NotRetried)
+retry_reason scene = if is_none scene.pending then reasons.NothingPending else (if is_second scene then reasons.Resent else reasons.NotRetried)
 
 abbrev pub pending_reason : Scene → Reason
 pending_reason scene = if is_some scene.pending then reasons.Pending else reasons.SlotInUse

@@ -27,7 +27,7 @@ use Rattle.chi_coverage.specs.Completions.{completion_cell}
 -- "Answers to snoops": how far the request has come that a snoop crosses
 abbrev pub attempt_stage : Bool → Stage
 attempt_stage true = stages.Sent
-attempt_stage false = stages.SentAgain
+attempt_stage false = stages.Resent
 
 abbrev pub stage_by : Phase → Option Request → Option RspDown → Stage
 stage_by phases.Retried request response = stages.Retried

@@ -66,7 +66,7 @@ pub(crate) enum Reason {
     /// 4: its request wasn't retried.
     NotRetried,
     /// 4: its request was sent again.
-    SentAgain,
+    Resent,
     /// 5: an answer to a snoop, the CompAck or the write data is awaited.
     Snooping,
     CompAck,
@@ -106,7 +106,7 @@ pub(crate) enum Stage {
     Sent,
     RetryAck,
     Retried,
-    SentAgain,
+    Resent,
     Waiting,
 }
 
@@ -251,7 +251,7 @@ impl fmt::Display for Reason {
             Reason::SlotInUse => f.write_str("3 the slot is in use"),
             Reason::NothingPending => f.write_str("4 nothing is pending"),
             Reason::NotRetried => f.write_str("4 it wasn't retried"),
-            Reason::SentAgain => f.write_str("4 it was sent again"),
+            Reason::Resent => f.write_str("4 it was sent again"),
             Reason::Snooping => f.write_str("5 snooping"),
             Reason::CompAck => f.write_str("5 compack"),
             Reason::WriteData => f.write_str("5 wrdata"),
@@ -298,7 +298,7 @@ impl Stage {
             Stage::Sent => "its first attempt in flight",
             Stage::RetryAck => "RetryAck in flight",
             Stage::Retried => "Retried",
-            Stage::SentAgain => "its second attempt in flight",
+            Stage::Resent => "its second attempt in flight",
             Stage::Waiting => "waiting",
         }
     }

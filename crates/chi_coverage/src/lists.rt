@@ -78,11 +78,11 @@ const CELLS: [Cell; 565] = cells! {
     (Cell::Refused, Verb::Ack) [Reason::Agent, Reason::Line, Reason::NoFlit]
     (Cell::Refused, Verb::WrData) [Reason::Agent, Reason::Line, Reason::NoFlit]
     (Cell::Refused, Verb::Resend) [
-        Reason::Agent, Reason::Line, Reason::NothingPending, Reason::NotRetried, Reason::SentAgain,
+        Reason::Agent, Reason::Line, Reason::NothingPending, Reason::NotRetried, Reason::Resent,
         Reason::NotSendable, Reason::NoCredit,
     ]
     (Cell::Refused, Verb::Cancel) [
-        Reason::Agent, Reason::Line, Reason::NothingPending, Reason::NotRetried, Reason::SentAgain,
+        Reason::Agent, Reason::Line, Reason::NothingPending, Reason::NotRetried, Reason::Resent,
         Reason::NotCopyBack, Reason::Sendable,
     ]
     (Cell::Refused, Verb::See) [Reason::Agent]
@@ -194,28 +194,28 @@ const CELLS: [Cell; 565] = cells! {
     (Cell::Crossed, Snoop::SnpCleanInvalid, WriteCleanFull) [UD, SD, SC, I]
     (Cell::Crossed, Snoop::SnpCleanInvalid, WriteEvictFull) [UC, SC, I]
     (Cell::CrossedAt, ReadNotSharedDirty) [
-        Stage::Sent, Stage::RetryAck, Stage::Retried, Stage::SentAgain, Stage::Waiting,
+        Stage::Sent, Stage::RetryAck, Stage::Retried, Stage::Resent, Stage::Waiting,
     ]
     (Cell::CrossedAt, ReadShared) [
-        Stage::Sent, Stage::RetryAck, Stage::Retried, Stage::SentAgain, Stage::Waiting,
+        Stage::Sent, Stage::RetryAck, Stage::Retried, Stage::Resent, Stage::Waiting,
     ]
     (Cell::CrossedAt, ReadUnique) [
-        Stage::Sent, Stage::RetryAck, Stage::Retried, Stage::SentAgain, Stage::Waiting,
+        Stage::Sent, Stage::RetryAck, Stage::Retried, Stage::Resent, Stage::Waiting,
     ]
     (Cell::CrossedAt, CleanUnique) [
-        Stage::Sent, Stage::RetryAck, Stage::Retried, Stage::SentAgain, Stage::Waiting,
+        Stage::Sent, Stage::RetryAck, Stage::Retried, Stage::Resent, Stage::Waiting,
     ]
     (Cell::CrossedAt, Evict) [
-        Stage::Sent, Stage::RetryAck, Stage::Retried, Stage::SentAgain, Stage::Waiting,
+        Stage::Sent, Stage::RetryAck, Stage::Retried, Stage::Resent, Stage::Waiting,
     ]
     (Cell::CrossedAt, WriteBackFull) [
-        Stage::Sent, Stage::RetryAck, Stage::Retried, Stage::SentAgain, Stage::Waiting,
+        Stage::Sent, Stage::RetryAck, Stage::Retried, Stage::Resent, Stage::Waiting,
     ]
     (Cell::CrossedAt, WriteCleanFull) [
-        Stage::Sent, Stage::RetryAck, Stage::Retried, Stage::SentAgain, Stage::Waiting,
+        Stage::Sent, Stage::RetryAck, Stage::Retried, Stage::Resent, Stage::Waiting,
     ]
     (Cell::CrossedAt, WriteEvictFull) [
-        Stage::Sent, Stage::RetryAck, Stage::Retried, Stage::SentAgain, Stage::Waiting,
+        Stage::Sent, Stage::RetryAck, Stage::Retried, Stage::Resent, Stage::Waiting,
     ]
     (Cell::WriteAsked, WriteBackFull) [I, SC, UC, UD, SD]
     (Cell::WriteAsked, WriteCleanFull) [I, SC, UC, UD, SD]

@@ -84,7 +84,7 @@ fn retry_reason(scene: &Scene) -> Reason
     if scene.pending.is_none() {
         Reason::NothingPending
     } else if is_second(scene) {
-        Reason::SentAgain
+        Reason::Resent
     } else {
         Reason::NotRetried
     }

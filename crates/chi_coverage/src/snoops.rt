@@ -19,7 +19,7 @@ fn stage_of(phase: Phase, scene: &Scene) -> Stage
             if request.allow_retry {
                 Stage::Sent
             } else {
-                Stage::SentAgain
+                Stage::Resent
             }
         }
         (Phase::Sent, None, Some(RspDown::RetryAck(_))) => Stage::RetryAck,

@@ -40,7 +40,7 @@ use Rattle.chi_resolution.specs.declared.resolution.Options.{Options}
 use Rattle.chi_resolution.specs.Changes.{credit_change, cancelled_by, change_by, change_of, flit_change, received, unless_lacking, with_loss, with_loss_in, with_loss_of}
 use Rattle.chi_resolution.specs.Credits.{early_of, given_back, granted, may_grant}
 use Rattle.chi_resolution.specs.DataFlits.{beat_by, beat_of, begun_or_freed, first_beat, later_beat, opened}
-use Rattle.chi_resolution.specs.Requests.{request_by, requested, retried, retry_event, right_type, sent_again, snooped, with_credit}
+use Rattle.chi_resolution.specs.Requests.{request_by, requested, retried, retry_event, right_type, resent, snooped, with_credit}
 use Rattle.chi_resolution.specs.Responses.{answered, completed, replied, responded}
 use Rattle.chi_resolution.specs.Tables.{Open, booking_of, freed, named, new_id}
 use Rattle.chi_resolution.specs.Ledger.{IsLedgerBalanced, held_of, wanted_of, with_event}
@@ -72,16 +72,16 @@ credit_kept : (early : Bool) (ends : Ends) (pcrd : PcrdType) (id : OpenId) (flit
 credit_kept early ends pcrd id flit retried table all =
     if_not _ _ _ (FlitKept early) (λ some. more_resent early _ (held_balanced early ends.requester pcrd table.accounts all) some)
 
-again_kept : (early : Bool) (table : Open) (ends : Ends) (pcrd : PcrdType) (id : OpenId) (flit : Observed) → TableKept early table → IfOk (sent_again table ends pcrd id flit) (FlitKept early)
-unfolding sent_again
-again_kept early table ends pcrd id flit all =
+resent_kept : (early : Bool) (table : Open) (ends : Ends) (pcrd : PcrdType) (id : OpenId) (flit : Observed) → TableKept early table → IfOk (resent table ends pcrd id flit) (FlitKept early)
+unfolding resent
+resent_kept early table ends pcrd id flit all =
     each (ok_or (id_of (keys.Retried ends.requester id.line) table.ids) (reasons.NotOpen (keys.Retried ends.requester id.line))) _ (FlitKept early) (λ retried.
     each (right_type pcrd retried.waits_for) _ (FlitKept early) (λ type.
     credit_kept early ends type id flit retried table all))
 
 request_by_kept : (early : Bool) (spends : Option PcrdType) (table : Open) (ends : Ends) (kind : Kind) (id : OpenId) (flit : Observed) → TableKept early table → IfOk (request_by spends table ends kind id flit) (FlitKept early)
 request_by_kept early None table ends kind id flit all = tt
-request_by_kept early (Some pcrd) table ends kind id flit all = again_kept early table ends pcrd id flit all
+request_by_kept early (Some pcrd) table ends kind id flit all = resent_kept early table ends pcrd id flit all
 
 request_kept : (early : Bool) (table : Open) (ends : Ends) (kind : Kind) (spends : Option PcrdType) (txn : TxnId) (address : Address) → TableKept early table → IfOk (requested table ends kind spends txn address) (FlitKept early)
 unfolding requested

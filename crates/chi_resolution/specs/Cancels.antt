@@ -30,7 +30,7 @@ abbrev pub left_by : Observed → Option State
 left_by (observed.Flit sent) = state_left sent.message
 left_by other = None
 
--- a copy-back isn't sent again from a copy in another state than it needs; other requests are
+-- a copy-back isn't resent from a copy in another state than it needs; other requests are
 abbrev pub is_unfit : Option Kind → State → Bool
 is_unfit None state = false
 is_unfit (Some kind) state = is_copy_back kind && not (is_needed kind state)

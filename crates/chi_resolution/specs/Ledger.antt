@@ -1,4 +1,4 @@
--- The ledger of the protocol credits: of each node and type what was retried (R), granted (G), sent again (S), cancelled
+-- The ledger of the protocol credits: of each node and type what was retried (R), granted (G), resent (S), cancelled
 -- (C) and returned (B) (docs/TRACES.md, "Nodes, ids and credits").
 use Rattle.std.specs.Prelude.{◌≡◌, ℕ, ◌+◌, ◌-◌, ◌≤◌, ◌==◌, ◌&&◌, nat_lt, Bool, true, false, List, [], ◌∷◌, ◌++◌, Option, Some, None, count_by, slice_set}
 use Rattle.std.specs.List.{position, slice_get}

@@ -44,15 +44,15 @@ with_credit ends pcrd id flit retried booking =
       books = Some booking;
     })
 
-unfoldable pub sent_again : Open → Ends → PcrdType → OpenId → Observed → Result LineFlit IdReason
-sent_again table ends pcrd id flit = do
+unfoldable pub resent : Open → Ends → PcrdType → OpenId → Observed → Result LineFlit IdReason
+resent table ends pcrd id flit = do
   retried ← ok_or (id_of (keys.Retried ends.requester id.line) table.ids) (reasons.NotOpen (keys.Retried ends.requester id.line))
   type ← right_type pcrd retried.waits_for
   with_credit ends type id flit retried (booking_of table ends.requester type events.Resent)
 
 abbrev pub request_by : Option PcrdType → Open → Ends → Kind → OpenId → Observed → Result LineFlit IdReason
 request_by None table ends kind id flit = Ok (attempted kind id flit)
-request_by (Some pcrd) table ends kind id flit = sent_again table ends pcrd id flit
+request_by (Some pcrd) table ends kind id flit = resent table ends pcrd id flit
 
 -- a request opens its id
 unfoldable pub requested : Open → Ends → Kind → Option PcrdType → TxnId → Address → Result LineFlit IdReason

@@ -31,7 +31,7 @@ pub(crate) fn left_by(seen: &Observed) -> Option<State>
     }
 }
 
-/// Whether a request of this kind isn't sent again from a copy in this state: it is a copy-back, and needs another one.
+/// Whether a request of this kind isn't resent from a copy in this state: it is a copy-back, and needs another one.
 pub(crate) fn is_unfit(kind: Option<Kind>, state: State) -> bool
     ensures { result ≡ is_unfit kind state }
 {

@@ -21,7 +21,7 @@ pub enum OpenKey {
     Buffer(NodeId, DbId),
     /// A snoop of the node: opened by its flit; free after SnpResp or SnpRespData.
     Snoop(NodeId, TxnId),
-    /// A retried request of the node to the line: opened by RetryAck; free after the request that sends it again,
+    /// A retried request of the node to the line: opened by RetryAck; free after the request that resends it,
     /// or once it is cancelled, as an answer to a snoop has taken the copy that it needs.
     Retried(NodeId, CacheLine),
 }

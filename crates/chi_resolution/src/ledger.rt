@@ -32,7 +32,7 @@ pub struct CreditLedger {
     pub granted: u64,
     /// Requests without AllowRetry.
     pub resent: u64,
-    /// Retried copy-backs that aren't sent again, as their copies are lost.
+    /// Retried copy-backs that aren't resent, as their copies are lost.
     pub cancelled: u64,
     /// PCrdReturns.
     pub returned: u64,

@@ -1,7 +1,7 @@
 //! Requests, their RetryAcks and snoops.
 
 ghost use Rattle.std.specs.Prelude.{◌≡◌};
-ghost use Rattle.chi_resolution.specs.Requests.{attempted, request_by, requested, retried, retried_flit, retry_event, right_type, sent_again, snooped, unless_lost};
+ghost use Rattle.chi_resolution.specs.Requests.{attempted, request_by, requested, retried, retried_flit, retry_event, right_type, resent, snooped, unless_lost};
 ghost use Rattle.chi_resolution.specs.Tables.{table_of};
 
 use crate::cancels::is_lost;
@@ -65,20 +65,20 @@ impl<A: Allocator> Tables<'_, A> {
     {
         match spends {
             None => Ok(first_attempt(kind, id, flit)),
-            Some(pcrd) => self.again(ends, pcrd, id, flit),
+            Some(pcrd) => self.resent(ends, pcrd, id, flit),
         }
     }
 
-    /// A request that is sent again and opens the id: it takes a credit of the type that its RetryAck has named.
-    #[tactic(auto, unfolding(crate::specs::Requests::sent_again))]
-    fn again(
+    /// A request that is resent and opens the id: it takes a credit of the type that its RetryAck has named.
+    #[tactic(auto, unfolding(crate::specs::Requests::resent))]
+    fn resent(
         &self,
         ends: &Ends,
         named: PcrdType,
         id: OpenId,
         flit: Observed,
     ) -> Result<LineFlit, IdReason>
-        ensures { result ≡ sent_again (table_of self.now) ends.now named id flit }
+        ensures { result ≡ resent (table_of self.now) ends.now named id flit }
     {
         let node = ends.requester;
         let key = OpenKey::Retried(node, id.line);

@@ -51,7 +51,7 @@ impl fmt::Display for SeenName<'_> {
         if let Some(resp) = resp_of(&self.0.flit) {
             write!(f, "_{resp}")?;
         }
-        if is_sent_again(&self.0.flit) {
+        if is_resent(&self.0.flit) {
             f.write_str(" with AR 0")?;
         }
         Ok(())
@@ -111,7 +111,7 @@ fn resp_of(flit: &Flit) -> Option<Resp> {
 }
 
 /// Whether it is a request that spends a credit.
-fn is_sent_again(flit: &Flit) -> bool {
+fn is_resent(flit: &Flit) -> bool {
     matches!(
         *flit,
         Flit::Request {
