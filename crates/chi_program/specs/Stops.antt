@@ -8,10 +8,10 @@ use Rattle.chi_program.specs.declared.faults.ArgFault.TheVariants as faults
 use Rattle.chi_program.specs.Faults as words
 use Rattle.chi_script.specs.declared.faults.Fault.{Fault}
 use Rattle.chi_script.specs.Faults as script
-use Rattle.chi_program.specs.declared.program.End.{End}
-use Rattle.chi_program.specs.declared.program.End.TheVariants as ends
-use Rattle.chi_program.specs.declared.program.Stop.{Stop}
-use Rattle.chi_program.specs.declared.program.Stop.TheVariants.{Arguments, Run}
+use Rattle.chi_program.specs.declared.stops.End.{End}
+use Rattle.chi_program.specs.declared.stops.End.TheVariants as ends
+use Rattle.chi_program.specs.declared.stops.Stop.{Stop}
+use Rattle.chi_program.specs.declared.stops.Stop.TheVariants.{Arguments, Run}
 use Rattle.chi_observe.specs.declared.reports.ObserveOutcome.{ObserveOutcome}
 use Rattle.chi_observe.specs.declared.reports.ObserveOutcome.TheVariants as observed
 use Rattle.chi_verdict.specs.declared.reports.TraceOutcome.{TraceOutcome}

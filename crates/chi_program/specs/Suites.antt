@@ -1,6 +1,6 @@
 -- The files of a command line as a check is given them (docs/FORMATS.md, "Several files").
 use Rattle.std.specs.Option.{option_map}
-use Rattle.chi_program.specs.declared.program.ReadFile.{ReadFile}
+use Rattle.chi_program.specs.declared.suites.ReadFile.{ReadFile}
 use Rattle.chi_replay.specs.Suites.{GivenFile, given}
 
 -- a file by the name that was given, with its bytes where it could be read

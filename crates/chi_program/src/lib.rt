@@ -4,16 +4,24 @@
 //! Source: `docs/FORMATS.md`, "The program".
 #![tactic(auto)]
 
+mod covers;
+mod drawings;
 mod faults;
+mod inputs;
 mod jobs;
 mod looks;
 mod options;
 mod program;
 mod progress;
+mod runs;
+mod stops;
+mod suites;
+mod traces;
 mod usages;
 
 pub use faults::ArgFault;
 pub use jobs::{Job, arguments};
 pub use options::{CellForm, RowRange};
-pub use program::{Stop, serve};
+pub use program::serve;
+pub use stops::Stop;
 pub use usages::{Topic, usage, version};

@@ -5,7 +5,7 @@ use Rattle.std.proofs.lemmas.Iterator.Consumers.{map_from_collect}
 use Rattle.std.proofs.lemmas.Result.{IfOk-at_ok}
 use Rattle.chi_program.specs.Suites.{given_in}
 use Rattle.chi_replay.specs.Suites.{given_of}
-use Rattle.chi_program.proofs.program.suite_of.Goals as goal
+use Rattle.chi_program.proofs.suites.suite_of.Goals as goal
 
 pub returns : goal.returns
 returns c =

@@ -1,6 +1,6 @@
 -- The files of the paths so far.
 use Rattle.std.proofs.Common.{◌≡◌, map, take}
-use Rattle.chi_program.proofs.program.read_files.Given as goal
+use Rattle.chi_program.proofs.suites.read_files.Given as goal
 
 abbrev pub invariant-loop-path : goal.invariant-loop-path
 invariant-loop-path g l = map (λ file. file.path.now) l.files.items ≡ map (λ path. path.now) (take l.path-index l.paths)
