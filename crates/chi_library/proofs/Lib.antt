@@ -10,3 +10,4 @@ mod OwnFlits
 mod AnswerFlits
 mod SentShown
 mod NodeSent
+mod ObserverHandles

@@ -20,3 +20,7 @@ pub mod Observed
 pub mod MonitorHandle
 pub mod MonitorFacts
 pub mod MonitorCalls
+pub mod SeenFlits
+pub mod ObserverTold
+pub mod ObserverHandle
+pub mod ObserverCalls

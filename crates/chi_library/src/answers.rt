@@ -20,6 +20,12 @@ pub(crate) const OUT_OF_RANGE: u8 = 10;
 /// A requester doesn't agree with a slice: the number of the refusal `NotOpen`.
 pub(crate) const NOT_OPEN: u8 = 11;
 
+/// An observer has no room for what a flit would add.
+pub(crate) const FULL: u8 = 247;
+
+/// A flit is of a line that an observer has set aside.
+pub(crate) const SET_ASIDE: u8 = 248;
+
 /// The bytes are a snapshot of another version.
 pub(crate) const OTHER_VERSION: u8 = 249;
 

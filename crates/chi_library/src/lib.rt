@@ -1,5 +1,4 @@
-//! The model as a library for C and SystemVerilog: a slice, a whole node on one thread, and a
-//! monitor.
+//! The model as a library for C and SystemVerilog: a slice, a whole node on one thread, a monitor, and an observer.
 //!
 //! Source: `docs/LIBRARY.md`.
 #![tactic(auto)]
@@ -20,8 +19,12 @@ mod node_steps;
 mod node_told;
 mod numbers;
 mod observed;
+mod observer_calls;
+mod observer_handle;
+mod observer_told;
 mod records;
 mod saved_slices;
+mod seen_flits;
 mod sent;
 mod sizes;
 mod slice_calls;
@@ -36,6 +39,11 @@ pub use monitor_handle::ChiMonitor;
 pub use monitor_told::{ChiFault, ChiOpen};
 pub use node_handle::ChiNode;
 pub use node_told::{ChiArrival, ChiAudit, ChiCredits, ChiRelease, ChiTotals};
+pub use observer_handle::ChiObserver;
+pub use observer_told::{
+    ChiAccount, ChiObserverConfig, ChiObserverCounts, ChiObserverFault, ChiOpenId,
+};
 pub use records::ChiRecord;
+pub use seen_flits::ChiSeen;
 pub use sizes::ChiConfig;
 pub use slice_handle::ChiSlice;

@@ -1,4 +1,5 @@
-//! Tests of `chi_observe` through its public calls alone: traces that are read and judged, and devices that fail.
+//! Tests of `chi_observe` through its public calls alone: traces that are read and judged, devices that fail, and a watch
+//! with a room.
 #![tactic(auto)]
 
 #[cfg(test)]

@@ -1,0 +1,67 @@
+-- What the calls on an observer answer, leave and tell, by C's numbers (docs/LIBRARY.md, "An observer").
+use Rattle.std.specs.Prelude.{◌≡◌, ℕ, List, Option, Some, None, slice_get}
+use Rattle.std.specs.Global.{Global}
+use Rattle.std.specs.Map.{values_of}
+use Rattle.chi_trace.specs.declared.any_flits.AnySeen.{AnySeen}
+use Rattle.chi_observe.specs.declared.benches.BenchWatch.{BenchWatch}
+use Rattle.chi_observe.specs.declared.benches.Judged.{Judged}
+use Rattle.chi_observe.specs.declared.credits.Account.{Account}
+use Rattle.chi_observe.specs.declared.facts.FaultFacts.{FaultFacts}
+use Rattle.chi_observe.specs.declared.ids.OpenId.{OpenId}
+use Rattle.chi_observe.specs.Benches.{IsSeen, IsToldOf, benched, nothing_benched}
+use Rattle.chi_observe.specs.Pending.{is_id_open}
+use Rattle.chi_observe.specs.Tallies.{tallied}
+use Rattle.chi_observe.specs.Watched.{Watched}
+use Rattle.chi_library.specs.declared.observer_told.ChiAccount.{ChiAccount}
+use Rattle.chi_library.specs.declared.observer_told.ChiObserverCounts.{ChiObserverCounts}
+use Rattle.chi_library.specs.declared.observer_told.ChiObserverFault.{ChiObserverFault}
+use Rattle.chi_library.specs.declared.observer_told.ChiOpenId.{ChiOpenId}
+use Rattle.chi_library.specs.declared.observer_told.Opening.{Opening}
+use Rattle.chi_library.specs.ObserverTold.{account_told, counts_told, fault_told, id_told, judged_number, no_account, no_fault, no_id}
+use Rattle.chi_library.specs.SavedSlices.{AreBytesTold}
+
+-- an observer that has seen no flit opens
+abbrev pub IsObserverOf : Opening → BenchWatch Global → Type 0
+IsObserverOf opening b = benched b ≡ nothing_benched opening.room opening.options
+
+-- what its flits have told
+abbrev pub told_in : BenchWatch Global → Watched
+told_in b = (benched b).told.told
+
+-- a flit that was named is judged by the observer
+abbrev pub IsSeenAs : BenchWatch Global → Option AnySeen → ℕ → BenchWatch Global → Type 0
+IsSeenAs b None answer b' = (answer ≡ 10) × (b' ≡ b)
+IsSeenAs b (Some seen) answer b' = (judged : Judged) × (answer ≡ judged_number judged) × IsSeen (benched b) (benched b') seen judged
+
+abbrev pub IsSeenAnswered : Option (BenchWatch Global) → Option AnySeen → ℕ → Option (BenchWatch Global) → Type 0
+IsSeenAnswered None seen answer new = (answer ≡ 255) × (new ≡ None)
+IsSeenAnswered (Some b) seen answer None = ⊥
+IsSeenAnswered (Some b) seen answer (Some b') = IsSeenAs b seen answer b'
+
+-- the first fault, or none
+abbrev pub IsFaultTold : Option (BenchWatch Global) → ChiObserverFault → Type 0
+IsFaultTold None fault = fault ≡ no_fault
+IsFaultTold (Some b) fault = (facts : Option FaultFacts) × IsToldOf (benched b).stop facts × (fault ≡ fault_told facts)
+
+-- a text, whatever it is, of the observer that is held
+abbrev pub IsFaultTextTold : Option (BenchWatch Global) → List ℕ → ℕ → List ℕ → ℕ → Type 0
+IsFaultTextTold None room answer new told = (answer ≡ 255) × (told ≡ 0) × (new ≡ room)
+IsFaultTextTold (Some b) room answer new told = (text : List ℕ) × AreBytesTold text room answer new told
+
+abbrev pub counts_in : BenchWatch Global → ChiObserverCounts
+counts_in b = counts_told (tallied (told_in b))
+
+-- the id and the account of a place
+abbrev pub id_in : BenchWatch Global → ℕ → Option OpenId
+id_in b place = slice_get (values_of (told_in b).ids) place
+
+abbrev pub id_if : BenchWatch Global → Option OpenId → ChiOpenId
+id_if b None = no_id
+id_if b (Some id) = id_told id (is_id_open (told_in b) id)
+
+abbrev pub account_in : BenchWatch Global → ℕ → Option Account
+account_in b place = slice_get (values_of (told_in b).accounts) place
+
+abbrev pub account_if : Option Account → ChiAccount
+account_if None = no_account
+account_if (Some account) = account_told account

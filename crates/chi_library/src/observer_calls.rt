@@ -1,0 +1,321 @@
+//! The calls on an observer, for C.
+
+ghost use Rattle.std.specs.Prelude.{◌≡◌, IfOk, None, Some};
+ghost use Rattle.chi_observe.specs.Benches.{benched, nothing_benched};
+ghost use Rattle.chi_observe.specs.Tallies.{tallied};
+ghost use Rattle.chi_library.specs.Calls.{IsOpeningCall, answer_number, output_of};
+ghost use Rattle.chi_library.specs.MonitorCalls.{watched_refusal};
+ghost use Rattle.chi_library.specs.Numbers.{number_if};
+ghost use Rattle.chi_library.specs.ObserverCalls.{IsFaultTold, IsFaultTextTold, IsObserverOf, IsSeenAnswered, IsSeenAs, account_in, account_if, counts_in, id_if, id_in};
+ghost use Rattle.chi_library.specs.ObserverTold.{no_account, no_counts, no_id, opening_at};
+ghost use Rattle.chi_library.specs.SavedSlices.{AreBytesTold};
+ghost use Rattle.chi_library.specs.SeenFlits.{seen_of};
+
+use crate::answers::{ALREADY_OPEN, CLOSED, DONE, NO_MEMORY, NO_ROOM, OUT_OF_RANGE};
+use crate::observer_handle::ChiObserver;
+use crate::observer_told::{
+    ChiAccount, ChiObserverConfig, ChiObserverCounts, ChiObserverFault, ChiOpenId, Opening,
+    account_told, counts_told, fault_told, id_told, judged_number, opening_at,
+};
+use crate::seen_flits::{ChiSeen, seen_at};
+use chi_flit::NoMemory;
+use chi_observe::BenchWatch;
+use std::alloc::Global;
+
+/// Opens an observer that has seen no flit, with memory for so much.
+///
+/// Answers 0; 254 where the handle is open already, which stays as it is; 10 where a size is outside its limits, or the
+/// credit types or the flag are none; 8 where memory runs out. After 10 and 8 the handle is closed.
+/// Source: `docs/LIBRARY.md`, "An observer".
+#[unsafe(no_mangle)]
+pub extern "C" fn chi_observer_open(
+    alloc: Global,
+    observer: &mut ChiObserver,
+    config: &ChiObserverConfig,
+) -> u8
+    ensures { IsOpeningCall IsObserverOf (opening_at config.now)
+        observer.old.value result observer.new.value }
+{
+    if let Some(held) = observer.take(alloc) {
+        observer.put(held);
+        return ALREADY_OPEN;
+    }
+    match opening_at(config) {
+        Some(opening) => open(alloc, observer, &opening),
+        None => OUT_OF_RANGE,
+    }
+}
+
+/// Takes the next flit, where there is room for what it adds, and ids, credits and its line allow it.
+///
+/// Answers 0 where it is taken, and 248 where its line is set aside then, by it or before it; 247 where there is no room;
+/// 253 where it isn't allowed, which is kept as the first fault; 253 too of each flit behind that; 10 where a number is
+/// none of its enum's, or a field lacks; 8 where memory ran out, and of each flit behind that. Answers 255 of a closed
+/// handle. But for the fault nothing changes where it isn't taken.
+/// Source: `docs/LIBRARY.md`, "An observer".
+#[unsafe(no_mangle)]
+pub extern "C" fn chi_observer_take(alloc: Global, observer: &mut ChiObserver, seen: &ChiSeen) -> u8
+    ensures { IsSeenAnswered observer.old.value (seen_of seen.now) result observer.new.value }
+{
+    match observer.take(alloc) {
+        Some(mut held) => {
+            let answer = judge(&mut held, seen);
+            observer.put(held);
+            answer
+        }
+        None => CLOSED,
+    }
+}
+
+/// Tells the first fault; all numbers are 0 where there is none, but that no copy and no type are 255.
+///
+/// Answers 0, or 255 of a closed handle. Nothing changes. What a reason rests on no clause says.
+/// Source: `docs/LIBRARY.md`, "An observer".
+#[unsafe(no_mangle)]
+pub extern "C" fn chi_observer_fault(
+    alloc: Global,
+    observer: &mut ChiObserver,
+    fault: &mut ChiObserverFault,
+) -> u8
+    ensures answer { result ≡ answer_number observer.old.value (λ b. None) }
+    ensures after { observer.new.value ≡ observer.old.value }
+    ensures fault { IsFaultTold observer.old.value fault.new }
+{
+    *fault = ChiObserverFault::NONE;
+    match observer.take(alloc) {
+        Some(held) => {
+            *fault = fault_of(&held);
+            observer.put(held);
+            DONE
+        }
+        None => CLOSED,
+    }
+}
+
+/// Writes the text of the first fault, in UTF-8 and without a 0 behind it; none where there is no fault. `length` is how
+/// many bytes it has, and those of `bytes` behind them stay.
+///
+/// Answers 0; 1 where there is not room for all, and 8 where memory runs out: `bytes` is then as it was, and after 1
+/// `length` is how many there are, else 0. Answers 255 of a closed handle. Nothing changes. Which text it is no clause
+/// says.
+/// Source: `docs/LIBRARY.md`, "An observer"; `docs/OBSERVER.md`, "What is printed".
+#[unsafe(no_mangle)]
+pub extern "C" fn chi_observer_text(
+    alloc: Global,
+    observer: &mut ChiObserver,
+    bytes: &mut [u8],
+    length: &mut usize,
+) -> u8
+    ensures text { IsFaultTextTold observer.old.value bytes.old result bytes.new length.new }
+    ensures after { observer.new.value ≡ observer.old.value }
+{
+    *length = 0;
+    match observer.take(alloc) {
+        Some(held) => {
+            let answer = text_into(alloc, &held, bytes, length);
+            observer.put(held);
+            answer
+        }
+        None => CLOSED,
+    }
+}
+
+/// Tells how much the observer has seen, and what it holds.
+///
+/// Answers 0, or 255 of a closed handle. Nothing changes.
+/// Source: `docs/LIBRARY.md`, "An observer".
+#[unsafe(no_mangle)]
+pub extern "C" fn chi_observer_counts(
+    alloc: Global,
+    observer: &mut ChiObserver,
+    counts: &mut ChiObserverCounts,
+) -> u8
+    ensures answer { result ≡ answer_number observer.old.value (λ b. None) }
+    ensures after { observer.new.value ≡ observer.old.value }
+    ensures counts { counts.new ≡ output_of observer.old.value no_counts counts_in }
+{
+    *counts = ChiObserverCounts::NONE;
+    match observer.take(alloc) {
+        Some(held) => {
+            *counts = counts_of(&held);
+            observer.put(held);
+            DONE
+        }
+        None => CLOSED,
+    }
+}
+
+/// Tells the id of a place among those that are held, from 0.
+///
+/// Answers 10 behind their end; all numbers are 0 then. Answers 255 of a closed handle. Nothing changes.
+/// Source: `docs/LIBRARY.md`, "An observer".
+#[unsafe(no_mangle)]
+pub extern "C" fn chi_observer_opened(
+    alloc: Global,
+    observer: &mut ChiObserver,
+    place: u32,
+    id: &mut ChiOpenId,
+) -> u8
+    ensures answer { result
+        ≡ answer_number observer.old.value (λ b. watched_refusal (id_in b place)) }
+    ensures after { observer.new.value ≡ observer.old.value }
+    ensures id { id.new ≡ output_of observer.old.value no_id (λ b. id_if b (id_in b place)) }
+{
+    *id = ChiOpenId::NONE;
+    match observer.take(alloc) {
+        Some(held) => {
+            let answer = tell_id(&held, place, id);
+            observer.put(held);
+            answer
+        }
+        None => CLOSED,
+    }
+}
+
+/// Tells the account of a place among those that are held, from 0.
+///
+/// Answers 10 behind their end; all numbers are 0 then. Answers 255 of a closed handle. Nothing changes.
+/// Source: `docs/LIBRARY.md`, "An observer".
+#[unsafe(no_mangle)]
+pub extern "C" fn chi_observer_account(
+    alloc: Global,
+    observer: &mut ChiObserver,
+    place: u32,
+    account: &mut ChiAccount,
+) -> u8
+    ensures answer { result
+        ≡ answer_number observer.old.value (λ b. watched_refusal (account_in b place)) }
+    ensures after { observer.new.value ≡ observer.old.value }
+    ensures account { account.new
+        ≡ output_of observer.old.value no_account (λ b. account_if (account_in b place)) }
+{
+    *account = ChiAccount::NONE;
+    match observer.take(alloc) {
+        Some(held) => {
+            let answer = tell_account(&held, place, account);
+            observer.put(held);
+            answer
+        }
+        None => CLOSED,
+    }
+}
+
+/// Closes the handle and frees the observer.
+///
+/// Answers 0, or 255 of a closed handle.
+/// Source: `docs/LIBRARY.md`, "Handles".
+#[unsafe(no_mangle)]
+pub extern "C" fn chi_observer_close(alloc: Global, observer: &mut ChiObserver) -> u8
+    ensures answer { result ≡ answer_number observer.old.value (λ b. None) }
+    ensures after { observer.new.value ≡ None }
+{
+    match observer.take(alloc) {
+        Some(_) => DONE,
+        None => CLOSED,
+    }
+}
+
+/// Opens a closed handle.
+fn open(alloc: Global, observer: &mut ChiObserver, opening: &Opening) -> u8
+    requires { observer.old.value ≡ None }
+    ensures { IsOpeningCall IsObserverOf (Some opening.now) None result observer.new.value }
+{
+    match boxed_observer(alloc, opening) {
+        Ok(held) => {
+            observer.put(held);
+            DONE
+        }
+        Err(_) => NO_MEMORY,
+    }
+}
+
+/// A new observer on the heap.
+fn boxed_observer(alloc: Global, opening: &Opening) -> Result<Box<BenchWatch<Global>>, NoMemory>
+    ensures { IfOk result (λ held. IsObserverOf opening.now held.value) }
+{
+    let observer = BenchWatch::new(alloc, opening.options, opening.room)?;
+    Ok(Box::new(alloc, observer)?)
+}
+
+/// Takes a flit.
+fn judge(observer: &mut BenchWatch<Global>, seen: &ChiSeen) -> u8
+    ensures { IsSeenAs observer.old (seen_of seen.now) result observer.new }
+{
+    match seen_at(seen) {
+        Some(seen) => judged_number(observer.see(&seen)),
+        None => OUT_OF_RANGE,
+    }
+}
+
+/// The first fault.
+fn fault_of(observer: &BenchWatch<Global>) -> ChiObserverFault
+    ensures { IsFaultTold (Some observer.now) result }
+{
+    fault_told(&observer.fault())
+}
+
+/// How much an observer has seen, and what it holds.
+fn counts_of(observer: &BenchWatch<Global>) -> ChiObserverCounts
+    ensures { result ≡ counts_in observer.now }
+{
+    counts_told(&observer.tally())
+}
+
+/// Writes the text of the first fault into a room.
+fn text_into(
+    alloc: Global,
+    observer: &BenchWatch<Global>,
+    bytes: &mut [u8],
+    length: &mut usize,
+) -> u8
+    requires { length.old ≡ 0 }
+    ensures { IsFaultTextTold (Some observer.now) bytes.old result bytes.new length.new }
+{
+    match observer.fault_text(alloc) {
+        Ok(text) => tell_bytes(text.as_bytes(), bytes, length),
+        Err(_) => NO_MEMORY,
+    }
+}
+
+/// Copies a text into a room.
+fn tell_bytes(text: &[u8], bytes: &mut [u8], length: &mut usize) -> u8
+    ensures { AreBytesTold text.now bytes.old result bytes.new length.new }
+{
+    let count = text.len();
+    *length = count;
+    if bytes.len() < count {
+        return NO_ROOM;
+    }
+    bytes[..count].copy_from_slice(text);
+    DONE
+}
+
+/// Tells the id of a place.
+fn tell_id(observer: &BenchWatch<Global>, place: u32, id: &mut ChiOpenId) -> u8
+    requires { id.old ≡ no_id }
+    ensures answer { result ≡ number_if (watched_refusal (id_in observer.now place)) }
+    ensures id { id.new ≡ id_if observer.now (id_in observer.now place) }
+{
+    match observer.id_at(place as usize) {
+        Some(held) => {
+            *id = id_told(&held, observer.is_id_open(&held));
+            DONE
+        }
+        None => OUT_OF_RANGE,
+    }
+}
+
+/// Tells the account of a place.
+fn tell_account(observer: &BenchWatch<Global>, place: u32, account: &mut ChiAccount) -> u8
+    requires { account.old ≡ no_account }
+    ensures answer { result ≡ number_if (watched_refusal (account_in observer.now place)) }
+    ensures account { account.new ≡ account_if (account_in observer.now place) }
+{
+    match observer.account_at(place as usize) {
+        Some(held) => {
+            *account = account_told(&held);
+            DONE
+        }
+        None => OUT_OF_RANGE,
+    }
+}

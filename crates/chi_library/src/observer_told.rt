@@ -1,0 +1,723 @@
+//! What the calls on an observer are told and tell, in C's words.
+
+ghost use Rattle.std.specs.Prelude.{◌≡◌, ◌≤◌};
+ghost use Rattle.chi_observe.specs.Ids.{sides_of};
+ghost use Rattle.chi_library.specs.ObserverTold.{account_told, aside_line, aside_number, bit, copy_number, counts_told, differing, differs_number, early_at, expected_words, facts_told, fault_told, form_number, id_number, id_reason_number, id_told, is_size, judged_number, key_form, key_number, kind_number, lacks_mask, least, least_byte, line_address, line_number, line_reason_number, mask_of, node_number, opening_at, purpose_number, reason_number, room_at, rule_number, snoop_number, told_number, type_number, types_at, wanted_number, words_differ};
+
+use crate::answers::{DONE, FAULT, FULL, NO_MEMORY, SET_ASIDE};
+use crate::numbers::flag_number;
+use chi_flit::{Data, NO_DATA};
+use chi_observe::{
+    Account, Aside, CacheLine, CreditTypes, FaultFacts, IdKey, IdReason, Judged, LineReason,
+    OpenId, Purpose, Room, Sides, Tally, WatchFault, WatchOptions,
+};
+use chi_observer::{Kind, Reason, Snoop, Told};
+use chi_trace::{NodeId, PcrdType};
+
+/// What an observer is opened for: `ChiObserverConfig` of `chihome.h`.
+/// Source: `docs/LIBRARY.md`, "An observer".
+#[repr(C)]
+#[derive(Clone, Copy)]
+pub struct ChiObserverConfig {
+    pub lines: u32,
+    pub ids: u32,
+    pub accounts: u32,
+    pub requesters: u8,
+    pub homes: u8,
+    pub types: u8,
+    pub early_grants: u8,
+}
+
+/// The first flit that isn't taken: `ChiObserverFault` of `chihome.h`. Where there is none all numbers are 0, but that no
+/// copy and no type are 255. `reserved` is padding in C.
+/// Source: `docs/LIBRARY.md`, "An observer".
+#[repr(C)]
+#[derive(Clone, Copy)]
+pub struct ChiObserverFault {
+    pub number: u64,
+    pub line: u64,
+    pub since: u64,
+    pub expected: Data,
+    pub node: u16,
+    pub home: u16,
+    pub other: u16,
+    pub id: u16,
+    pub reason: u8,
+    pub has_line: u8,
+    pub has_other: u8,
+    pub form: u8,
+    pub told: u8,
+    pub differs: u8,
+    pub wanted: u8,
+    pub reserved: u8,
+}
+
+/// How much an observer has seen, and what it holds: `ChiObserverCounts` of `chihome.h`. `reserved` is padding in C.
+/// Source: `docs/LIBRARY.md`, "An observer".
+#[repr(C)]
+#[derive(Clone, Copy)]
+pub struct ChiObserverCounts {
+    pub flits: u64,
+    pub accesses: u64,
+    pub lines: u64,
+    pub aside: u64,
+    pub aside_number: u64,
+    pub aside_line: u64,
+    pub ids: u32,
+    pub accounts: u32,
+    pub requests: u32,
+    pub completions: u32,
+    pub snoops: u32,
+    pub retried: u32,
+    pub unsettled: u32,
+    pub requesters: u8,
+    pub homes: u8,
+    pub reserved: [u8; 2],
+}
+
+/// An id that an observer holds: `ChiOpenId` of `chihome.h`. `reserved` is padding in C.
+/// Source: `docs/LIBRARY.md`, "An observer".
+#[repr(C)]
+#[derive(Clone, Copy)]
+pub struct ChiOpenId {
+    pub line: u64,
+    pub since: u64,
+    pub node: u16,
+    pub home: u16,
+    pub id: u16,
+    pub form: u8,
+    pub opcode: u8,
+    pub is_open: u8,
+    pub lacks: u8,
+    pub waits: u8,
+    pub reserved: [u8; 5],
+}
+
+/// The credits of a type of a requester from a home: `ChiAccount` of `chihome.h`. `reserved` is padding in C.
+/// Source: `docs/LIBRARY.md`, "An observer".
+#[repr(C)]
+#[derive(Clone, Copy)]
+pub struct ChiAccount {
+    pub promised: u64,
+    pub granted: u64,
+    pub spent: u64,
+    pub returned: u64,
+    pub owed: u64,
+    pub unused: u64,
+    pub node: u16,
+    pub home: u16,
+    pub credit: u8,
+    pub reserved: [u8; 3],
+}
+
+/// What an observer opens with.
+#[derive(Clone, Copy)]
+pub(crate) struct Opening {
+    pub options: WatchOptions,
+    pub room: Room,
+}
+
+impl ChiObserverFault {
+    /// No fault.
+    pub(crate) const NONE: ChiObserverFault = ChiObserverFault {
+        number: 0,
+        line: 0,
+        since: 0,
+        expected: NO_DATA,
+        node: 0,
+        home: 0,
+        other: 0,
+        id: 0,
+        reason: 0,
+        has_line: 0,
+        has_other: 0,
+        form: 0,
+        told: 255,
+        differs: 0,
+        wanted: 255,
+        reserved: 0,
+    };
+}
+
+impl ChiObserverCounts {
+    /// Nothing is told.
+    pub(crate) const NONE: ChiObserverCounts = ChiObserverCounts {
+        flits: 0,
+        accesses: 0,
+        lines: 0,
+        aside: 0,
+        aside_number: 0,
+        aside_line: 0,
+        ids: 0,
+        accounts: 0,
+        requests: 0,
+        completions: 0,
+        snoops: 0,
+        retried: 0,
+        unsettled: 0,
+        requesters: 0,
+        homes: 0,
+        reserved: [0; 2],
+    };
+}
+
+impl ChiOpenId {
+    /// No id.
+    pub(crate) const NONE: ChiOpenId = ChiOpenId {
+        line: 0,
+        since: 0,
+        node: 0,
+        home: 0,
+        id: 0,
+        form: 0,
+        opcode: 0,
+        is_open: 0,
+        lacks: 0,
+        waits: 0,
+        reserved: [0; 5],
+    };
+}
+
+impl ChiAccount {
+    /// No account.
+    pub(crate) const NONE: ChiAccount = ChiAccount {
+        promised: 0,
+        granted: 0,
+        spent: 0,
+        returned: 0,
+        owed: 0,
+        unused: 0,
+        node: 0,
+        home: 0,
+        credit: 0,
+        reserved: [0; 3],
+    };
+}
+
+/// The credit types of a number.
+fn types_at(number: u8) -> Option<CreditTypes>
+    ensures { result ≡ types_at number }
+{
+    match number {
+        0 => Some(CreditTypes::Any),
+        2 => Some(CreditTypes::Two),
+        4 => Some(CreditTypes::Four),
+        _ => None,
+    }
+}
+
+/// A flag of a number.
+fn early_at(number: u8) -> Option<bool>
+    ensures { result ≡ early_at number }
+{
+    match number {
+        0 => Some(false),
+        1 => Some(true),
+        _ => None,
+    }
+}
+
+/// Whether a table may have so many.
+fn is_size(number: u32) -> bool
+    ensures { result ≡ is_size number }
+{
+    1 <= number && number <= 16_777_216
+}
+
+/// The room, where each size is in its limits.
+fn room_at(config: &ChiObserverConfig) -> Option<Room>
+    ensures { result ≡ room_at config.now }
+{
+    let sizes = is_size(config.lines) && (is_size(config.ids) && is_size(config.accounts));
+    let nodes = 1 <= config.requesters && (config.requesters <= 32 && 1 <= config.homes);
+    if sizes && nodes {
+        Some(Room {
+            requesters: config.requesters as usize,
+            homes: config.homes as usize,
+            lines: config.lines as usize,
+            ids: config.ids as usize,
+            accounts: config.accounts as usize,
+        })
+    } else {
+        None
+    }
+}
+
+/// What an observer opens with; none where a number is none of its own.
+pub(crate) fn opening_at(config: &ChiObserverConfig) -> Option<Opening>
+    ensures { result ≡ opening_at config.now }
+{
+    let room = room_at(config)?;
+    let types = types_at(config.types)?;
+    let early_grants = early_at(config.early_grants)?;
+    let options = WatchOptions {
+        types,
+        early_grants,
+    };
+    Some(Opening { options, room })
+}
+
+/// The answer to a flit.
+pub(crate) fn judged_number(judged: Judged) -> u8
+    ensures { result ≡ judged_number judged }
+{
+    match judged {
+        Judged::Taken => DONE,
+        Judged::SetAside => SET_ASIDE,
+        Judged::Full => FULL,
+        Judged::Untaken => FAULT,
+        Judged::NoMemory => NO_MEMORY,
+    }
+}
+
+/// The number of a reason of ids or credits.
+fn id_reason_number(reason: IdReason) -> u8
+    ensures { result ≡ id_reason_number reason }
+{
+    match reason {
+        IdReason::InUse(_) => 1,
+        IdReason::NotOpen(_) => 2,
+        IdReason::Unfinished(_) => 3,
+        IdReason::WordAgain(_) => 4,
+        IdReason::WrongAddress { named: _, line: _ } => 5,
+        IdReason::NotRetryable(_) => 6,
+        IdReason::OtherType {
+            named: _,
+            wanted: _,
+        } => 7,
+        IdReason::NothingRetried(_, _) => 8,
+        IdReason::NoCredit(_, _) => 9,
+        IdReason::NoDbid(_) => 10,
+        IdReason::Form(_) => 11,
+    }
+}
+
+/// The number of a rule of a line.
+fn rule_number(reason: Reason) -> u8
+    ensures { result ≡ rule_number reason }
+{
+    match reason {
+        Reason::NotJudged => 13,
+        Reason::NoAgent => 14,
+        Reason::NotSent => 15,
+        Reason::NotDue => 16,
+        Reason::Busy => 17,
+        Reason::NoMoment => 18,
+        Reason::NoOverwriter => 19,
+        Reason::NoDuty => 20,
+        Reason::OtherWords => 21,
+        Reason::OtherCopy => 22,
+        Reason::Lost => 23,
+    }
+}
+
+/// The number of a reason of a line.
+fn line_reason_number(reason: LineReason) -> u8
+    ensures { result ≡ line_reason_number reason }
+{
+    match reason {
+        LineReason::OtherHome(_) => 12,
+        LineReason::Rule(reason) => rule_number(reason),
+    }
+}
+
+/// The number of a reason.
+fn reason_number(fault: WatchFault) -> u8
+    ensures { result ≡ reason_number fault }
+{
+    match fault {
+        WatchFault::Ids(reason) => id_reason_number(reason),
+        WatchFault::Line(reason) => line_reason_number(reason),
+    }
+}
+
+/// The type that a flit has to name, where that is its fault.
+fn wanted_number(fault: WatchFault) -> u8
+    ensures { result ≡ wanted_number fault }
+{
+    match fault {
+        WatchFault::Ids(IdReason::OtherType { named: _, wanted }) => wanted.0,
+        _ => 255,
+    }
+}
+
+/// What names by a key.
+fn key_form(key: IdKey) -> u8
+    ensures { result ≡ key_form key }
+{
+    match key {
+        IdKey::Request(_, _) => 1,
+        IdKey::Buffer(_, _) => 2,
+        IdKey::Snoop(_, _) => 3,
+        IdKey::Retried(_, _) => 4,
+    }
+}
+
+/// The number of a key.
+fn key_number(key: IdKey) -> u16
+    ensures { result ≡ key_number key }
+{
+    match key {
+        IdKey::Request(_, txn) => txn.0,
+        IdKey::Buffer(_, dbid) => dbid.0,
+        IdKey::Snoop(_, txn) => txn.0,
+        IdKey::Retried(_, _) => 0,
+    }
+}
+
+/// What names by a key, if there is one.
+fn form_number(key: Option<IdKey>) -> u8
+    ensures { result ≡ form_number key }
+{
+    match key {
+        Some(key) => key_form(key),
+        None => 0,
+    }
+}
+
+/// The number of a key, if there is one.
+fn id_number(key: Option<IdKey>) -> u16
+    ensures { result ≡ id_number key }
+{
+    match key {
+        Some(key) => key_number(key),
+        None => 0,
+    }
+}
+
+/// The address of the first byte of a line.
+fn line_address(line: CacheLine) -> u64
+    ensures { result ≡ line_address line }
+{
+    line.0 % 0x400_0000_0000_0000 * 64
+}
+
+/// The address of a line, if it is known.
+fn line_number(line: Option<CacheLine>) -> u64
+    ensures { result ≡ line_number line }
+{
+    match line {
+        Some(line) => line_address(line),
+        None => 0,
+    }
+}
+
+/// The number of a node, if there is one.
+fn node_number(node: Option<NodeId>) -> u16
+    ensures { result ≡ node_number node }
+{
+    match node {
+        Some(node) => node.0,
+        None => 0,
+    }
+}
+
+/// The number of what was told of a copy.
+fn copy_number(told: Told) -> u8
+    ensures { result ≡ copy_number told }
+{
+    match told {
+        Told::I => 0,
+        Told::SC => 1,
+        Told::SCOrI => 2,
+        Told::UC => 3,
+        Told::UCOrI => 4,
+        Told::UCE => 5,
+        Told::UCEOrI => 6,
+        Told::UCOrUCE => 7,
+        Told::UD => 8,
+        Told::SD => 9,
+        Told::Writing => 10,
+    }
+}
+
+/// The number of what was told of a copy, if it was.
+fn told_number(told: Option<Told>) -> u8
+    ensures { result ≡ told_number told }
+{
+    match told {
+        Some(told) => copy_number(told),
+        None => 255,
+    }
+}
+
+/// What a bit is worth that is set, or isn't.
+fn bit(is_set: bool, worth: u8) -> u8
+    ensures is { result ≡ bit is_set worth }
+    ensures most { result ≤ worth }
+{
+    if is_set { worth } else { 0 }
+}
+
+/// The bits of eight words.
+fn mask_of(words: &[bool; 8]) -> u8
+    ensures { result ≡ mask_of words.now }
+{
+    let low = bit(words[0], 1) + bit(words[1], 2) + bit(words[2], 4) + bit(words[3], 8);
+    let high = bit(words[4], 16) + bit(words[5], 32) + bit(words[6], 64) + bit(words[7], 128);
+    low + high
+}
+
+/// Whether two words differ.
+fn words_differ(one: u64, other: u64) -> bool
+    ensures { result ≡ words_differ one other }
+{
+    !(one == other)
+}
+
+/// Which words differ.
+fn differing(known: &Data, shown: &Data) -> u8
+    ensures { result ≡ differing known.now shown.now }
+{
+    mask_of(&[
+        words_differ(known[0], shown[0]),
+        words_differ(known[1], shown[1]),
+        words_differ(known[2], shown[2]),
+        words_differ(known[3], shown[3]),
+        words_differ(known[4], shown[4]),
+        words_differ(known[5], shown[5]),
+        words_differ(known[6], shown[6]),
+        words_differ(known[7], shown[7]),
+    ])
+}
+
+/// Which words differ, where some do.
+fn differs_number(words: &Option<(Data, Data)>) -> u8
+    ensures { result ≡ differs_number words.now }
+{
+    match words {
+        Some(words) => {
+            let known = words.0;
+            let shown = words.1;
+            differing(&known, &shown)
+        }
+        None => 0,
+    }
+}
+
+/// The words that are known, where others were shown.
+fn expected_words(words: &Option<(Data, Data)>) -> Data
+    ensures { result ≡ expected_words words.now }
+{
+    match words {
+        Some(words) => {
+            let known = words.0;
+            known
+        }
+        None => NO_DATA,
+    }
+}
+
+/// What is told of the first flit that isn't taken.
+fn facts_told(facts: &FaultFacts) -> ChiObserverFault
+    ensures { result ≡ facts_told facts.now }
+{
+    let ground = &facts.ground;
+    ChiObserverFault {
+        number: facts.number as u64,
+        line: line_number(facts.line),
+        since: ground.since as u64,
+        expected: expected_words(&ground.words),
+        node: facts.sides.requester.0,
+        home: facts.sides.home.0,
+        other: node_number(ground.other),
+        id: id_number(ground.key),
+        reason: reason_number(facts.fault),
+        has_line: flag_number(facts.line.is_some()),
+        has_other: flag_number(ground.other.is_some()),
+        form: form_number(ground.key),
+        told: told_number(ground.told),
+        differs: differs_number(&ground.words),
+        wanted: wanted_number(facts.fault),
+        reserved: 0,
+    }
+}
+
+/// The same, if there is one.
+pub(crate) fn fault_told(facts: &Option<FaultFacts>) -> ChiObserverFault
+    ensures { result ≡ fault_told facts.now }
+{
+    match facts {
+        Some(facts) => facts_told(facts),
+        None => ChiObserverFault::NONE,
+    }
+}
+
+/// A number that is told in 32 bits.
+fn least(number: usize) -> u32
+    ensures { result ≡ least number }
+{
+    number.min(0xffff_ffff) as u32
+}
+
+/// A number that is told in 8 bits.
+fn least_byte(number: usize) -> u8
+    ensures { result ≡ least_byte number }
+{
+    number.min(255) as u8
+}
+
+/// The number of the flit that set the first line aside.
+fn aside_number(aside: Option<Aside>) -> u64
+    ensures { result ≡ aside_number aside }
+{
+    match aside {
+        Some(aside) => aside.number as u64,
+        None => 0,
+    }
+}
+
+/// The address of that line.
+fn aside_line(aside: Option<Aside>) -> u64
+    ensures { result ≡ aside_line aside }
+{
+    match aside {
+        Some(aside) => line_address(aside.line),
+        None => 0,
+    }
+}
+
+/// How much an observer has seen, and what it holds.
+pub(crate) fn counts_told(tally: &Tally) -> ChiObserverCounts
+    ensures { result ≡ counts_told tally.now }
+{
+    let counts = tally.counts;
+    ChiObserverCounts {
+        flits: counts.flits,
+        accesses: counts.accesses,
+        lines: counts.lines,
+        aside: counts.aside,
+        aside_number: aside_number(counts.first_aside),
+        aside_line: aside_line(counts.first_aside),
+        ids: least(tally.ids),
+        accounts: least(tally.accounts),
+        requests: least(tally.requests),
+        completions: least(tally.completions),
+        snoops: least(tally.snoops),
+        retried: least(tally.retried),
+        unsettled: least(tally.unsettled),
+        requesters: least_byte(tally.requesters),
+        homes: least_byte(tally.homes),
+        reserved: [0; 2],
+    }
+}
+
+/// The opcode of a kind of request.
+fn kind_number(kind: Kind) -> u8
+    ensures { result ≡ kind_number kind }
+{
+    match kind {
+        Kind::ReadNotSharedDirty => 1,
+        Kind::ReadShared => 2,
+        Kind::ReadClean => 3,
+        Kind::ReadOnce => 4,
+        Kind::ReadUnique => 5,
+        Kind::CleanUnique => 6,
+        Kind::MakeUnique => 7,
+        Kind::CleanShared => 8,
+        Kind::CleanInvalid => 9,
+        Kind::MakeInvalid => 10,
+        Kind::Evict => 11,
+        Kind::WriteBackFull => 12,
+        Kind::WriteCleanFull => 13,
+        Kind::WriteEvictFull => 14,
+        Kind::WriteUniqueFull => 15,
+    }
+}
+
+/// The opcode of a snoop.
+fn snoop_number(snoop: Snoop) -> u8
+    ensures { result ≡ snoop_number snoop }
+{
+    match snoop {
+        Snoop::SnpOnce => 17,
+        Snoop::SnpClean => 18,
+        Snoop::SnpShared => 19,
+        Snoop::SnpNotSharedDirty => 20,
+        Snoop::SnpCleanShared => 21,
+        Snoop::SnpUnique => 22,
+        Snoop::SnpCleanInvalid => 23,
+        Snoop::SnpMakeInvalid => 24,
+    }
+}
+
+/// The opcode of what an id is open for; 0 where it isn't known.
+fn purpose_number(purpose: Purpose) -> u8
+    ensures { result ≡ purpose_number purpose }
+{
+    match purpose {
+        Purpose::Request { kind, first: _ } => kind_number(kind),
+        Purpose::Snoop(snoop) => snoop_number(snoop),
+        Purpose::Unknown { first: _ } => 0,
+    }
+}
+
+/// The words that an id's data lack.
+fn lacks_mask(lacks: &Option<[bool; 8]>) -> u8
+    ensures { result ≡ lacks_mask lacks.now }
+{
+    match lacks {
+        Some(lacks) => mask_of(lacks),
+        None => 0,
+    }
+}
+
+/// The type that an id waits for; 255 where it waits for none.
+fn type_number(pcrd: Option<PcrdType>) -> u8
+    ensures { result ≡ type_number pcrd }
+{
+    match pcrd {
+        Some(pcrd) => pcrd.0,
+        None => 255,
+    }
+}
+
+/// An id that is held.
+pub(crate) fn id_told(id: &OpenId, is_open: bool) -> ChiOpenId
+    ensures { result ≡ id_told id.now is_open }
+{
+    let sides = sides_of(id.key);
+    ChiOpenId {
+        line: line_address(id.line),
+        since: id.since as u64,
+        node: sides.requester.0,
+        home: sides.home.0,
+        id: key_number(id.key),
+        form: key_form(id.key),
+        opcode: purpose_number(id.purpose),
+        is_open: flag_number(is_open),
+        lacks: lacks_mask(&id.lacks),
+        waits: type_number(id.waits_for),
+        reserved: [0; 5],
+    }
+}
+
+/// An account.
+pub(crate) fn account_told(account: &Account) -> ChiAccount
+    ensures { result ≡ account_told account.now }
+{
+    ChiAccount {
+        promised: account.retried,
+        granted: account.granted,
+        spent: account.resent,
+        returned: account.returned,
+        owed: account.owed(),
+        unused: account.unused(),
+        node: account.sides.requester.0,
+        home: account.sides.home.0,
+        credit: account.pcrd.0,
+        reserved: [0; 3],
+    }
+}
+
+/// The two nodes of a key.
+fn sides_of(key: IdKey) -> Sides
+    ensures { result ≡ sides_of key }
+{
+    match key {
+        IdKey::Request(sides, _) => sides,
+        IdKey::Buffer(sides, _) => sides,
+        IdKey::Snoop(sides, _) => sides,
+        IdKey::Retried(sides, _) => sides,
+    }
+}

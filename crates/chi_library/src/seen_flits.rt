@@ -1,0 +1,504 @@
+//! A flit that C gives an observer, as a line of a trace.
+
+ghost use Rattle.std.specs.Prelude.{◌≡◌, ◌<◌};
+ghost use Rattle.chi_library.specs.SeenFlits.{address_named, answer_flit, asking_flit, beat_at, buffer_flit, completion_flit, completion_of, data_at, data_of, dbid_named, flit_at, grant_flit, is_data, is_request, is_response, is_snoop, is_there, kind_flit, other_asking_flit, other_at, other_kind_flit, pcrd_at, profile_if, read_of, request_at, request_fields_at, request_fields_of, request_flit, resp_at, response_at, retry_flit, return_flit, seen_of, snoop_fields_at, snoop_flit, transaction_at, word_at, words_there};
+
+use chi_flit::{Data, Kind, Snoop};
+use chi_trace::{
+    Address, AnyFlit, AnySeen, Beat, DbId, Flit, NodeId, OtherKind, OtherSnoop, PcrdType,
+    RequestFields, Resp, SnoopFields, Transaction, TxnId,
+};
+
+/// A flit as a monitor sees it, or a load or a store: `ChiSeen` of `chihome.h`. Fields that its opcode hasn't aren't read.
+/// `reserved` is padding in C.
+/// Source: `docs/LIBRARY.md`, "An observer".
+#[repr(C)]
+#[derive(Clone, Copy)]
+pub struct ChiSeen {
+    /// The number of the flit, from 1.
+    pub number: u64,
+    pub address: u64,
+    pub words: Data,
+    pub source: u16,
+    pub target: u16,
+    pub txn: u16,
+    pub dbid: u16,
+    pub opcode: u8,
+    pub resp: u8,
+    pub credit: u8,
+    pub allow_retry: u8,
+    pub has_address: u8,
+    pub has_dbid: u8,
+    /// The words that a beat has, a bit each.
+    pub mask: u8,
+    pub reserved: u8,
+}
+
+/// The RESP of a number.
+fn resp_at(number: u8) -> Option<Resp>
+    ensures { result ≡ resp_at number }
+{
+    match number {
+        0 => Some(Resp::I),
+        1 => Some(Resp::SC),
+        2 => Some(Resp::UC),
+        3 => Some(Resp::UD),
+        4 => Some(Resp::SD),
+        5 => Some(Resp::IPD),
+        6 => Some(Resp::SCPD),
+        7 => Some(Resp::UCPD),
+        8 => Some(Resp::UDPD),
+        9 => Some(Resp::SDPD),
+        _ => None,
+    }
+}
+
+/// The credit type of a number.
+fn pcrd_at(number: u8) -> Option<PcrdType>
+    ensures { result ≡ pcrd_at number }
+{
+    if number < 16 {
+        Some(PcrdType(number))
+    } else {
+        None
+    }
+}
+
+/// Whether a beat has a word: that of the bit that is worth so much.
+fn is_there(mask: u8, worth: u8) -> bool
+    requires { 0 < worth }
+    ensures { result ≡ is_there mask worth }
+{
+    mask / worth % 2 == 1
+}
+
+/// A word of a beat; 0 where it hasn't it.
+fn word_at(word: u64, there: bool) -> u64
+    ensures { result ≡ word_at word there }
+{
+    if there { word } else { 0 }
+}
+
+/// The words that a beat has.
+fn words_there(mask: u8) -> [bool; 8]
+    ensures { result ≡ words_there mask }
+{
+    [
+        is_there(mask, 1),
+        is_there(mask, 2),
+        is_there(mask, 4),
+        is_there(mask, 8),
+        is_there(mask, 16),
+        is_there(mask, 32),
+        is_there(mask, 64),
+        is_there(mask, 128),
+    ]
+}
+
+/// The beat of a flit; none where it has no word.
+fn beat_at(seen: &ChiSeen) -> Option<Beat>
+    ensures { result ≡ beat_at seen.now }
+{
+    if seen.mask == 0 {
+        return None;
+    }
+    let there = words_there(seen.mask);
+    let words = [
+        word_at(seen.words[0], there[0]),
+        word_at(seen.words[1], there[1]),
+        word_at(seen.words[2], there[2]),
+        word_at(seen.words[3], there[3]),
+        word_at(seen.words[4], there[4]),
+        word_at(seen.words[5], there[5]),
+        word_at(seen.words[6], there[6]),
+        word_at(seen.words[7], there[7]),
+    ];
+    Some(Beat { words, there })
+}
+
+/// The address, where it is known.
+fn address_named(seen: &ChiSeen) -> Option<Address>
+    ensures { result ≡ address_named seen.now }
+{
+    if seen.has_address == 0 {
+        None
+    } else {
+        Some(Address(seen.address))
+    }
+}
+
+/// The DBID, where one is named.
+fn dbid_named(seen: &ChiSeen) -> Option<DbId>
+    ensures { result ≡ dbid_named seen.now }
+{
+    if seen.has_dbid == 0 {
+        None
+    } else {
+        Some(DbId(seen.dbid))
+    }
+}
+
+/// What ties a response, or data, to its transaction.
+fn transaction_at(seen: &ChiSeen) -> Transaction
+    ensures { result ≡ transaction_at seen.now }
+{
+    Transaction {
+        target: NodeId(seen.target),
+        txn: TxnId(seen.txn),
+        address: address_named(seen),
+    }
+}
+
+/// What a request has that spends this.
+fn request_fields_of(seen: &ChiSeen, spends: Option<PcrdType>) -> RequestFields
+    ensures { result ≡ request_fields_of seen.now spends }
+{
+    RequestFields {
+        spends,
+        target: NodeId(seen.target),
+        txn: TxnId(seen.txn),
+        address: Address(seen.address),
+    }
+}
+
+/// What a request has; none where the type of its credit is none.
+fn request_fields_at(seen: &ChiSeen) -> Option<RequestFields>
+    ensures { result ≡ request_fields_at seen.now }
+{
+    if seen.allow_retry == 0 {
+        let pcrd = pcrd_at(seen.credit)?;
+        Some(request_fields_of(seen, Some(pcrd)))
+    } else {
+        Some(request_fields_of(seen, None))
+    }
+}
+
+/// What a snoop has.
+fn snoop_fields_at(seen: &ChiSeen) -> SnoopFields
+    ensures { result ≡ snoop_fields_at seen.now }
+{
+    SnoopFields {
+        target: NodeId(seen.target),
+        txn: TxnId(seen.txn),
+        address: Address(seen.address),
+    }
+}
+
+/// A request of the profile.
+fn kind_flit(kind: Kind, fields: RequestFields) -> AnyFlit
+    ensures { result ≡ kind_flit kind fields }
+{
+    AnyFlit::Profile(Flit::Request {
+        kind,
+        spends: fields.spends,
+        target: fields.target,
+        txn: fields.txn,
+        address: fields.address,
+    })
+}
+
+/// A request that the profile hasn't.
+fn other_kind_flit(kind: OtherKind, fields: RequestFields) -> AnyFlit
+    ensures { result ≡ other_kind_flit kind fields }
+{
+    AnyFlit::Request { kind, fields }
+}
+
+/// The request of an opcode with these fields.
+fn request_flit(opcode: u8, fields: RequestFields) -> Option<AnyFlit>
+    ensures { result ≡ request_flit opcode fields }
+{
+    match opcode {
+        1 => Some(kind_flit(Kind::ReadNotSharedDirty, fields)),
+        2 => Some(kind_flit(Kind::ReadShared, fields)),
+        3 => Some(other_kind_flit(OtherKind::ReadClean, fields)),
+        4 => Some(other_kind_flit(OtherKind::ReadOnce, fields)),
+        5 => Some(kind_flit(Kind::ReadUnique, fields)),
+        6 => Some(kind_flit(Kind::CleanUnique, fields)),
+        7 => Some(other_kind_flit(OtherKind::MakeUnique, fields)),
+        8 => Some(other_kind_flit(OtherKind::CleanShared, fields)),
+        9 => Some(other_kind_flit(OtherKind::CleanInvalid, fields)),
+        10 => Some(other_kind_flit(OtherKind::MakeInvalid, fields)),
+        11 => Some(kind_flit(Kind::Evict, fields)),
+        12 => Some(kind_flit(Kind::WriteBackFull, fields)),
+        13 => Some(kind_flit(Kind::WriteCleanFull, fields)),
+        14 => Some(kind_flit(Kind::WriteEvictFull, fields)),
+        15 => Some(other_kind_flit(OtherKind::WriteUniqueFull, fields)),
+        37 => Some(AnyFlit::UnknownRequest(fields)),
+        _ => None,
+    }
+}
+
+/// A request.
+fn request_at(seen: &ChiSeen) -> Option<AnyFlit>
+    ensures { result ≡ request_at seen.now }
+{
+    request_flit(seen.opcode, request_fields_at(seen)?)
+}
+
+/// A snoop of the profile.
+fn asking_flit(snoop: Snoop, fields: SnoopFields) -> AnyFlit
+    ensures { result ≡ asking_flit snoop fields }
+{
+    AnyFlit::Profile(Flit::Snoop {
+        snoop,
+        target: fields.target,
+        txn: fields.txn,
+        address: fields.address,
+    })
+}
+
+/// A snoop that the profile hasn't.
+fn other_asking_flit(snoop: OtherSnoop, fields: SnoopFields) -> AnyFlit
+    ensures { result ≡ other_asking_flit snoop fields }
+{
+    AnyFlit::Snoop { snoop, fields }
+}
+
+/// The snoop of an opcode with these fields.
+fn snoop_flit(opcode: u8, fields: SnoopFields) -> Option<AnyFlit>
+    ensures { result ≡ snoop_flit opcode fields }
+{
+    match opcode {
+        17 => Some(other_asking_flit(OtherSnoop::SnpOnce, fields)),
+        18 => Some(other_asking_flit(OtherSnoop::SnpClean, fields)),
+        19 => Some(asking_flit(Snoop::SnpShared, fields)),
+        20 => Some(asking_flit(Snoop::SnpNotSharedDirty, fields)),
+        21 => Some(other_asking_flit(OtherSnoop::SnpCleanShared, fields)),
+        22 => Some(asking_flit(Snoop::SnpUnique, fields)),
+        23 => Some(asking_flit(Snoop::SnpCleanInvalid, fields)),
+        24 => Some(other_asking_flit(OtherSnoop::SnpMakeInvalid, fields)),
+        38 => Some(AnyFlit::UnknownSnoop(fields)),
+        _ => None,
+    }
+}
+
+/// A RetryAck.
+fn retry_flit(seen: &ChiSeen) -> Option<Flit>
+    ensures { result ≡ retry_flit seen.now }
+{
+    let pcrd = pcrd_at(seen.credit)?;
+    Some(Flit::RetryAck {
+        pcrd,
+        transaction: transaction_at(seen),
+    })
+}
+
+/// A granted credit.
+fn grant_flit(seen: &ChiSeen) -> Option<Flit>
+    ensures { result ≡ grant_flit seen.now }
+{
+    let pcrd = pcrd_at(seen.credit)?;
+    Some(Flit::PCrdGrant {
+        pcrd,
+        target: NodeId(seen.target),
+    })
+}
+
+/// A returned credit.
+fn return_flit(seen: &ChiSeen) -> Option<Flit>
+    ensures { result ≡ return_flit seen.now }
+{
+    let pcrd = pcrd_at(seen.credit)?;
+    Some(Flit::PCrdReturn {
+        pcrd,
+        target: NodeId(seen.target),
+    })
+}
+
+/// A Comp with this RESP and DBID.
+fn completion_of(resp: Resp, dbid: Option<DbId>, transaction: Transaction) -> AnyFlit
+    ensures { result ≡ completion_of resp dbid transaction }
+{
+    match (resp, dbid) {
+        (Resp::UC, Some(dbid)) => AnyFlit::Profile(Flit::CompUC { dbid, transaction }),
+        (Resp::UC, None) => AnyFlit::CompUC { transaction },
+        (resp, _) => AnyFlit::Profile(Flit::Comp { resp, transaction }),
+    }
+}
+
+/// A Comp.
+fn completion_flit(seen: &ChiSeen) -> Option<AnyFlit>
+    ensures { result ≡ completion_flit seen.now }
+{
+    let resp = resp_at(seen.resp)?;
+    Some(completion_of(resp, dbid_named(seen), transaction_at(seen)))
+}
+
+/// A CompDBIDResp, which needs a DBID.
+fn buffer_flit(seen: &ChiSeen) -> Option<Flit>
+    ensures { result ≡ buffer_flit seen.now }
+{
+    let dbid = dbid_named(seen)?;
+    Some(Flit::CompDBIDResp {
+        dbid,
+        transaction: transaction_at(seen),
+    })
+}
+
+/// A SnpResp.
+fn answer_flit(seen: &ChiSeen) -> Option<Flit>
+    ensures { result ≡ answer_flit seen.now }
+{
+    let resp = resp_at(seen.resp)?;
+    Some(Flit::SnpResp {
+        resp,
+        transaction: transaction_at(seen),
+    })
+}
+
+/// A read's data with this DBID.
+fn read_of(resp: Resp, dbid: Option<DbId>, transaction: Transaction, beat: Beat) -> AnyFlit
+    ensures { result ≡ read_of resp dbid transaction beat }
+{
+    match dbid {
+        Some(dbid) => AnyFlit::Profile(Flit::CompData {
+            resp,
+            dbid,
+            transaction,
+            beat,
+        }),
+        None => AnyFlit::CompData {
+            resp,
+            transaction,
+            beat,
+        },
+    }
+}
+
+/// The data of an opcode with these fields.
+fn data_of(seen: &ChiSeen, resp: Resp, beat: Beat) -> Option<AnyFlit>
+    ensures { result ≡ data_of seen.now resp beat }
+{
+    let transaction = transaction_at(seen);
+    match seen.opcode {
+        31 => Some(read_of(resp, dbid_named(seen), transaction, beat)),
+        32 => Some(AnyFlit::Profile(Flit::SnpRespData {
+            resp,
+            transaction,
+            beat,
+        })),
+        33 => Some(AnyFlit::Profile(Flit::CopyBackWrData {
+            resp,
+            transaction,
+            beat,
+        })),
+        34 => Some(AnyFlit::NonCopyBackWrData {
+            resp,
+            transaction,
+            beat,
+        }),
+        _ => None,
+    }
+}
+
+/// Data, which need a RESP and a word.
+fn data_at(seen: &ChiSeen) -> Option<AnyFlit>
+    ensures { result ≡ data_at seen.now }
+{
+    let resp = resp_at(seen.resp)?;
+    let beat = beat_at(seen)?;
+    data_of(seen, resp, beat)
+}
+
+/// A flit of the profile, if it is one.
+fn profile_if(flit: Option<Flit>) -> Option<AnyFlit>
+    ensures { result ≡ profile_if flit }
+{
+    match flit {
+        Some(flit) => Some(AnyFlit::Profile(flit)),
+        None => None,
+    }
+}
+
+/// A response or a credit.
+fn response_at(seen: &ChiSeen) -> Option<AnyFlit>
+    ensures { result ≡ response_at seen.now }
+{
+    match seen.opcode {
+        16 => profile_if(return_flit(seen)),
+        25 => profile_if(retry_flit(seen)),
+        26 => completion_flit(seen),
+        27 => profile_if(buffer_flit(seen)),
+        28 => profile_if(grant_flit(seen)),
+        29 => profile_if(answer_flit(seen)),
+        30 => Some(AnyFlit::Profile(Flit::CompAck {
+            transaction: transaction_at(seen),
+        })),
+        _ => None,
+    }
+}
+
+/// A load or a store, or a response or data that have no number here.
+fn other_at(seen: &ChiSeen) -> Option<AnyFlit>
+    ensures { result ≡ other_at seen.now }
+{
+    let (address, value) = (Address(seen.address), seen.words[0]);
+    match seen.opcode {
+        35 => Some(AnyFlit::Profile(Flit::Load { address, value })),
+        36 => Some(AnyFlit::Profile(Flit::Store { address, value })),
+        39 => Some(AnyFlit::UnknownAnswer(transaction_at(seen))),
+        40 => Some(AnyFlit::UnknownReply(transaction_at(seen), dbid_named(seen))),
+        _ => None,
+    }
+}
+
+/// Whether it is a request's opcode.
+fn is_request(opcode: u8) -> bool
+    ensures { result ≡ is_request opcode }
+{
+    (1 <= opcode && opcode <= 15) || opcode == 37
+}
+
+/// Whether it is a snoop's opcode.
+fn is_snoop(opcode: u8) -> bool
+    ensures { result ≡ is_snoop opcode }
+{
+    (17 <= opcode && opcode <= 24) || opcode == 38
+}
+
+/// Whether it is the opcode of a response that has no data, or of a credit.
+fn is_response(opcode: u8) -> bool
+    ensures { result ≡ is_response opcode }
+{
+    opcode == 16 || (25 <= opcode && opcode <= 30)
+}
+
+/// Whether it is an opcode of data.
+fn is_data(opcode: u8) -> bool
+    ensures { result ≡ is_data opcode }
+{
+    31 <= opcode && opcode <= 34
+}
+
+/// The flit that C's numbers name; `None` where they name none.
+fn flit_at(seen: &ChiSeen) -> Option<AnyFlit>
+    ensures { result ≡ flit_at seen.now }
+{
+    if is_request(seen.opcode) {
+        request_at(seen)
+    } else if is_snoop(seen.opcode) {
+        snoop_flit(seen.opcode, snoop_fields_at(seen))
+    } else if is_response(seen.opcode) {
+        response_at(seen)
+    } else if is_data(seen.opcode) {
+        data_at(seen)
+    } else {
+        other_at(seen)
+    }
+}
+
+/// The flit of C as a line of a trace: its number is the line's. `None` where a number names none, or a field lacks.
+pub(crate) fn seen_at(seen: &ChiSeen) -> Option<AnySeen>
+    ensures { result ≡ seen_of seen.now }
+{
+    if seen.number == 0 {
+        return None;
+    }
+    let flit = flit_at(seen)?;
+    Some(AnySeen {
+        line: seen.number as usize,
+        source: NodeId(seen.source),
+        flit,
+    })
+}
