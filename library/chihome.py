@@ -1526,6 +1526,8 @@ class Observer(_Handle):
         super().__init__(_ChiObserver(), config)
         self._last = 0
         sizes = [_within(it, 0xFFFFFFFF) for it in config[:3]] + [_byte(it) for it in config[3:]]
+        # (255 homes may be)
+        sizes[4] = homes if 0 <= homes <= 255 else 0
         _check(self._calls.chi_observer_open(byref(self._handle), byref(_ChiObserverConfig(*sizes))))
 
     def _close(self) -> int:
