@@ -125,7 +125,9 @@ static void room(void) {
     HOLDS(take_all(&observer, READ) == CHI_OK && take(&observer, "REQ 8 40 1 ReadUnique 1080 - - 1 - -") == CHI_OK);
     HOLDS(take(&observer, "REQ 8 40 2 ReadUnique 10c0 - - 1 - -") == CHI_Full);
     HOLDS(take(&observer, "DAT 40 8 1 CompData - UC 11 - - 0,0,0,0,0,0,0,0") == CHI_OK);
-    HOLDS(chi_observer_close(&observer) == CHI_OK);
+    /* (so too where its line wouldn't take it, but not where ids don't allow it) */
+    HOLDS(take(&observer, "SNP 40 8 5 SnpUnique 1080 - - - - -") == CHI_Full);
+    HOLDS(take(&observer, "RSP 8 40 12 CompAck - - - - - -") == CHI_Fault && chi_observer_close(&observer) == CHI_OK);
     small = SIZES;
     small.accounts = 1;
     opened_for(&observer, small);
