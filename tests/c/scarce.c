@@ -56,6 +56,31 @@ static int node_allocations(void) {
     }
 }
 
+/* With no allocation granted once it is open, an observer takes reads that are retried and sent again, for as long as there
+ * are some: none of them adds more than there is room for. */
+static void observer_without_memory(void) {
+    static const ChiObserverConfig ROOM = {.lines = 4, .ids = 2, .accounts = 2, .requesters = 2, .homes = 1};
+    static const uint8_t OPCODES[] = {CHI_Op_ReadUnique, CHI_Op_RetryAck, CHI_Op_PCrdGrant, CHI_Op_ReadUnique, CHI_Op_SnpUnique,
+        CHI_Op_SnpResp, CHI_Op_CompData, CHI_Op_CompAck};
+    ChiObserver observer = {0};
+    ChiObserverCounts counts;
+    HOLDS(chi_observer_open(&observer, &ROOM) == CHI_OK);
+    granted = 0;
+    for (int place = 0; place < 80000 && failures == 0; place++) {
+        int round = place / 8, step = place % 8;
+        uint16_t node = (uint16_t)(8 + round / 4 % 2), other = (uint16_t)(17 - node), asked = step == 4 || step == 5 ? other : node;
+        int is_up = step == 0 || step == 3 || step == 5 || step == 7;
+        ChiSeen seen = {.number = (uint64_t)place + 1, .opcode = OPCODES[step], .source = is_up ? asked : 64,
+            .target = is_up ? 64 : asked, .txn = 5, .dbid = 5, .has_dbid = 1, .address = 64 * (uint64_t)(round % 4),
+            .allow_retry = step == 0, .credit = 1, .mask = 255, .resp = step == 6 ? CHI_Resp_UC : CHI_Resp_I};
+        HOLDS(chi_observer_take(&observer, &seen) == CHI_OK);
+    }
+    HOLDS(chi_observer_counts(&observer, &counts) == CHI_OK && counts.flits == 80000 && counts.ids == 0 && counts.lines == 4);
+    HOLDS(granted == 0);
+    granted = -1;
+    HOLDS(chi_observer_close(&observer) == CHI_OK);
+}
+
 /* Opens an observer, gives it a flit and a fault, and asks for its text: with one allocation refused, the opening or the text
  * is answered so; a flit takes no memory. */
 static int observer_allocations(void) {
@@ -295,6 +320,7 @@ int main(void) {
     int node = node_allocations();
     int monitor = monitor_allocations();
     int observer = observer_allocations();
+    observer_without_memory();
     HOLDS(slice > 0 && node > slice && monitor > 0 && observer > 0 && copy_allocations() == slice);
     slice_answers();
     copy_answers();
