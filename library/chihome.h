@@ -46,6 +46,8 @@ enum ChiAnswer {
     CHI_OutOfRange = 10, /* also of a number that is none of an enum's */
     CHI_NotOpen = 11,    /* never answered: the requesters of a node agree with its slices */
     CHI_NoCredit = 12,
+    CHI_Full = 247,         /* of an observer: there is no room for what the flit would add */
+    CHI_SetAside = 248,     /* of an observer: the flit is of a line that is set aside, and isn't judged */
     CHI_OtherVersion = 249, /* of a snapshot: it is of another version */
     CHI_OtherSize = 250,    /* of a snapshot: it is of another node, or of another slice of the node */
     CHI_Damaged = 251,      /* of a snapshot: it is none, or not as it was saved */
@@ -147,6 +149,122 @@ enum ChiReason {
     CHI_FormOfCopy = 18,
     CHI_OtherReason = 19,
     CHI_OtherCredit = 20
+};
+
+/* The opcodes of flits as an observer is given them (docs/TRACES.md, "Traces" and "Other opcodes"). Loads and stores are
+ * those of a processor. The last four stand for opcodes that CHI has and this enum hasn't: OtherAnswer for those of RSP and
+ * DAT whose names begin with `Snp`, OtherReply for the others of these channels. */
+enum ChiOpcode {
+    CHI_Op_None = 0,
+    CHI_Op_ReadNotSharedDirty = 1,
+    CHI_Op_ReadShared = 2,
+    CHI_Op_ReadClean = 3,
+    CHI_Op_ReadOnce = 4,
+    CHI_Op_ReadUnique = 5,
+    CHI_Op_CleanUnique = 6,
+    CHI_Op_MakeUnique = 7,
+    CHI_Op_CleanShared = 8,
+    CHI_Op_CleanInvalid = 9,
+    CHI_Op_MakeInvalid = 10,
+    CHI_Op_Evict = 11,
+    CHI_Op_WriteBackFull = 12,
+    CHI_Op_WriteCleanFull = 13,
+    CHI_Op_WriteEvictFull = 14,
+    CHI_Op_WriteUniqueFull = 15,
+    CHI_Op_PCrdReturn = 16,
+    CHI_Op_SnpOnce = 17,
+    CHI_Op_SnpClean = 18,
+    CHI_Op_SnpShared = 19,
+    CHI_Op_SnpNotSharedDirty = 20,
+    CHI_Op_SnpCleanShared = 21,
+    CHI_Op_SnpUnique = 22,
+    CHI_Op_SnpCleanInvalid = 23,
+    CHI_Op_SnpMakeInvalid = 24,
+    CHI_Op_RetryAck = 25,
+    CHI_Op_Comp = 26,
+    CHI_Op_CompDBIDResp = 27,
+    CHI_Op_PCrdGrant = 28,
+    CHI_Op_SnpResp = 29,
+    CHI_Op_CompAck = 30,
+    CHI_Op_CompData = 31,
+    CHI_Op_SnpRespData = 32,
+    CHI_Op_CopyBackWrData = 33,
+    CHI_Op_NonCopyBackWrData = 34,
+    CHI_Op_Load = 35,
+    CHI_Op_Store = 36,
+    CHI_Op_OtherRequest = 37,
+    CHI_Op_OtherSnoop = 38,
+    CHI_Op_OtherAnswer = 39,
+    CHI_Op_OtherReply = 40
+};
+
+/* What the Resp field of a flit holds: the state that is left or given, and `_PD` where the responsibility for the data
+ * goes along. */
+enum ChiResp {
+    CHI_Resp_I = 0,
+    CHI_Resp_SC = 1,
+    CHI_Resp_UC = 2,
+    CHI_Resp_UD = 3,
+    CHI_Resp_SD = 4,
+    CHI_Resp_I_PD = 5,
+    CHI_Resp_SC_PD = 6,
+    CHI_Resp_UC_PD = 7,
+    CHI_Resp_UD_PD = 8,
+    CHI_Resp_SD_PD = 9
+};
+
+/* What flits have told of a copy (docs/OBSERVER.md, "What is told of a copy"). */
+enum ChiTold {
+    CHI_Told_I = 0,
+    CHI_Told_SC = 1,
+    CHI_Told_SCOrI = 2,
+    CHI_Told_UC = 3,
+    CHI_Told_UCOrI = 4,
+    CHI_Told_UCE = 5,
+    CHI_Told_UCEOrI = 6,
+    CHI_Told_UCOrUCE = 7,
+    CHI_Told_UD = 8,
+    CHI_Told_SD = 9,
+    CHI_Told_Writing = 10
+};
+
+/* What an open id is named by (docs/OBSERVER.md, "Ids and credits"). */
+enum ChiIdForm {
+    CHI_Id_None = 0,
+    CHI_Id_Request = 1, /* by its TxnID */
+    CHI_Id_Buffer = 2,  /* by its DBID: CompAck or write data are due */
+    CHI_Id_Snoop = 3,   /* by its TxnID */
+    CHI_Id_Retried = 4  /* a request that was retried, by its line */
+};
+
+/* Why an observer doesn't take a flit (docs/OBSERVER.md, "Faults" and "Ids and credits"): the ids or the credits don't allow
+ * it (1 to 11), or its line doesn't (12 to 24). */
+enum ChiObserverReason {
+    CHI_Fault_None = 0,           /* there is no fault */
+    CHI_Fault_InUse = 1,          /* it opens an id that is in use */
+    CHI_Fault_NotOpen = 2,        /* it names an id that isn't open */
+    CHI_Fault_Unfinished = 3,     /* it frees an id whose data lack words */
+    CHI_Fault_WordAgain = 4,      /* an earlier beat of the id's data had such a word */
+    CHI_Fault_WrongAddress = 5,   /* its address is in one line, and its id is of another */
+    CHI_Fault_NotRetryable = 6,   /* a RetryAck of a request without AllowRetry */
+    CHI_Fault_OtherType = 7,      /* its credit type isn't that of the request */
+    CHI_Fault_NothingRetried = 8, /* a credit is granted, and no request waits for one */
+    CHI_Fault_NoCredit = 9,       /* there is no credit of the type */
+    CHI_Fault_NoDbid = 10,        /* a completion names no DBID, and CompAck or write data are to name it */
+    CHI_Fault_Form = 11,          /* no flit of the opcode has this RESP */
+    CHI_Fault_OtherHome = 12,     /* another node is the line's home */
+    CHI_Fault_NotJudged = 13,     /* never: all flits of these opcodes are judged */
+    CHI_Fault_NoAgent = 14,       /* never: a requester that has 32 before it sets its line aside */
+    CHI_Fault_NotSent = 15,       /* no copy that the requester may have sends it now */
+    CHI_Fault_NotDue = 16,        /* what is due of the requester doesn't let the home send it */
+    CHI_Fault_Busy = 17,          /* nothing is snooped while CompAck or write data are due at the line */
+    CHI_Fault_NoMoment = 18,      /* of a CleanShared or a ReadOnce: there was no moment for its completion */
+    CHI_Fault_NoOverwriter = 19,  /* of SnpMakeInvalid: no request is open for which copies may be thrown away */
+    CHI_Fault_NoDuty = 20,        /* the home has no dirty data to pass on */
+    CHI_Fault_OtherWords = 21,    /* the words are known to be others */
+    CHI_Fault_OtherCopy = 22,     /* another copy was told to be what doesn't go with the one that it makes */
+    CHI_Fault_Lost = 23,          /* the value last stored may have been thrown away */
+    CHI_Fault_Other = 24          /* another reason, which chi_observer_text says */
 };
 
 /* What an action gives, how far a request has come, what a line serves, what an arrival came to, and where a released
@@ -468,6 +586,166 @@ uint8_t chi_monitor_explain(ChiMonitor *monitor, uint8_t line);
 /* Closes the handle, and frees the monitor. */
 uint8_t chi_monitor_close(ChiMonitor *monitor);
 
+/* What an observer is opened for. It takes all memory then: a flit that would add more is answered CHI_Full. */
+typedef struct {
+    uint32_t lines;       /* of memory that flits touch, 1 to 16,777,216 */
+    uint32_t ids;         /* that are open at once, 1 to 16,777,216: requests, completions, snoops and retried requests */
+    uint32_t accounts;    /* of credits, 1 to 16,777,216: one for each home, requester and type that has any */
+    uint8_t requesters;   /* 1 to 32 */
+    uint8_t homes;        /* 1 to 255 */
+    uint8_t types;        /* of credits: 2 or 4, each with its kinds of request, or 0, any with any kind */
+    uint8_t early_grants; /* 1 where monitors stand at the requesters, which may see a grant before its RetryAck; else 0 */
+} ChiObserverConfig;
+
+/* A flit, whole, as a monitor sees it, or a load or a store of a processor. Fields that its opcode hasn't may hold anything:
+ *
+ *     requests, CHI_Op_OtherRequest   source, target, txn, address, allow_retry, and credit where that is 0
+ *     CHI_Op_PCrdReturn, PCrdGrant    source, target, credit
+ *     snoops, CHI_Op_OtherSnoop       source, target, txn, address
+ *     responses and data              source, target, txn, and address where has_address is 1
+ *         CHI_Op_RetryAck             credit
+ *         CHI_Op_Comp, CompData       resp, and dbid where has_dbid is 1
+ *         CHI_Op_CompDBIDResp         dbid, and has_dbid has to be 1
+ *         CHI_Op_SnpResp, SnpRespData, CopyBackWrData, NonCopyBackWrData  resp
+ *         CHI_Op_OtherReply           dbid where has_dbid is 1
+ *         CompData, SnpRespData, CopyBackWrData, NonCopyBackWrData        mask, and words of which its bits are set
+ *     CHI_Op_Load, Store              source, address, and the value in words[0]
+ *
+ * The txn of CompAck, CopyBackWrData and NonCopyBackWrData is the DBID that they name. */
+typedef struct {
+    uint64_t number;     /* of the flit, as the caller counts, from 1: faults and open ids name flits by it */
+    uint64_t address;    /* of any byte of the line; of a load or a store, of the word */
+    uint64_t words[8];   /* of data, those of the beat; of a load or a store the value is words[0] */
+    uint16_t source;     /* the node that sent it, or whose processor it was */
+    uint16_t target;     /* the node that it is sent to */
+    uint16_t txn;
+    uint16_t dbid;
+    uint8_t opcode;      /* ChiOpcode */
+    uint8_t resp;        /* ChiResp */
+    uint8_t credit;      /* the PCrdType, 0 to 15 */
+    uint8_t allow_retry; /* 1 where a request asserts AllowRetry */
+    uint8_t has_address; /* of a response or data: 1 where its address is known */
+    uint8_t has_dbid;    /* 1 where it names a DBID */
+    uint8_t mask;        /* of data: bit n is set where this beat has word n; 255 where it has all */
+    uint8_t reserved;
+} ChiSeen;
+
+/* The first flit that isn't taken. */
+typedef struct {
+    uint64_t number;      /* of the flit, as it was given; 0 where there is no fault */
+    uint64_t line;        /* the address of the first byte of its line of memory, where has_line is 1 */
+    uint64_t since;       /* the number of the flit that has told what the reason rests on, 0 where none has: it opened the
+                             id (1 to 11), was the line's first (12), told the copy of `told`, or the words (21) */
+    uint64_t expected[8]; /* of CHI_Fault_OtherWords: the words that are known; else 0 */
+    uint16_t node;        /* the requester that the flit is of or to */
+    uint16_t home;        /* the other node of the flit */
+    uint16_t other;       /* where has_other is 1: of CHI_Fault_OtherHome the line's home, of CHI_Fault_OtherCopy the first
+                             requester whose copy is in the way */
+    uint16_t id;          /* the number of the id that the reason rests on: of `form` */
+    uint8_t reason;       /* ChiObserverReason */
+    uint8_t has_line;
+    uint8_t has_other;
+    uint8_t form;         /* ChiIdForm of that id, CHI_Id_None where it rests on none */
+    uint8_t told;         /* ChiTold: what was told of the copy of `other` where CHI_Fault_OtherCopy, else of `node`; 255
+                             where the reason isn't one of its line (12 to 24) */
+    uint8_t differs;      /* of CHI_Fault_OtherWords: bit n is set where word n is another one */
+    uint8_t wanted;       /* of CHI_Fault_OtherType: the type that it has to be; else 255 */
+    uint8_t reserved;
+} ChiObserverFault;
+
+/* How much an observer has seen, and what it holds. */
+typedef struct {
+    uint64_t flits;        /* that were taken; data that come in beats are one */
+    uint64_t accesses;     /* loads and stores that were taken */
+    uint64_t lines;        /* of memory that flits have touched */
+    uint64_t aside;        /* lines that were set aside */
+    uint64_t aside_number; /* the number of the flit that set the first aside; 0 where there is none */
+    uint64_t aside_line;   /* the address of the first byte of that line */
+    uint32_t ids;          /* that are held, open or not: chi_observer_opened tells each */
+    uint32_t accounts;     /* of credits: chi_observer_account tells each */
+    uint32_t requests;     /* open requests: without their completion */
+    uint32_t completions;  /* open completions: without CompAck or write data */
+    uint32_t snoops;       /* open snoops: without their answer */
+    uint32_t retried;      /* requests that were retried, and neither sent again nor surely cancelled */
+    uint32_t unsettled;    /* accounts with credits that are owed or unused */
+    uint8_t requesters;    /* that are known */
+    uint8_t homes;         /* that are known */
+    uint8_t reserved[2];
+} ChiObserverCounts;
+
+/* An id that an observer holds. */
+typedef struct {
+    uint64_t line;  /* the address of the first byte of its line of memory */
+    uint64_t since; /* the number of the flit that opened it */
+    uint16_t node;  /* its requester */
+    uint16_t home;
+    uint16_t id;    /* the number that names it; 0 of CHI_Id_Retried */
+    uint8_t form;   /* ChiIdForm */
+    uint8_t opcode; /* ChiOpcode of its request or snoop; CHI_Op_None of one that isn't known */
+    uint8_t open;   /* 1 where it is open; 0 where its line is set aside, or the retried request surely cancelled */
+    uint8_t lacks;  /* bit n is set where its data lack word n; 0 where no beat has come */
+    uint8_t waits;  /* of CHI_Id_Retried: the credit type that it waits for; else 255 */
+    uint8_t reserved[5];
+} ChiOpenId;
+
+/* The credits of a type of a requester from a home. */
+typedef struct {
+    uint64_t promised; /* by RetryAcks */
+    uint64_t granted;
+    uint64_t spent;    /* by requests without AllowRetry */
+    uint64_t returned;
+    uint64_t owed;     /* promised, and not granted yet */
+    uint64_t unused;   /* promised and granted, and neither spent nor returned */
+    uint16_t node;     /* the requester */
+    uint16_t home;
+    uint8_t credit;    /* the type */
+    uint8_t reserved[3];
+} ChiAccount;
+
+/* An observer of any home and any caches. */
+typedef struct {
+    void *at;
+} ChiObserver;
+
+/* Opens an observer for so much, that has seen no flit. It takes all memory that it ever needs, but for what
+ * chi_observer_text has meanwhile. CHI_AlreadyOpen of an open handle; CHI_OutOfRange where a size is outside its limits, or
+ * `types` or `early_grants` is none of theirs; CHI_NoMemory. */
+uint8_t chi_observer_open(ChiObserver *observer, const ChiObserverConfig *config);
+
+/* Takes the next flit, in the order in which senders put them on their ports, without an end:
+ *
+ * - CHI_OK: it is taken.
+ * - CHI_SetAside: it is taken, and its line is set aside, by it or before it: the line isn't judged.
+ * - CHI_Full: the ids and the credits allow it, and there is no room for what it would add, whether its line takes it or
+ *   not. Nothing changes.
+ * - CHI_Fault: the ids, the credits or its line don't allow it. It is kept as the first fault, and each flit behind it is
+ *   answered so too. But for that nothing changes.
+ * - CHI_OutOfRange: `opcode`, or a `resp` or `credit` that the opcode has, is none of its enum's, or `number` is 0, or a
+ *   field lacks: the dbid of CompDBIDResp, or each word of data. Nothing changes.
+ * - CHI_NoMemory: memory ran out, as it doesn't where all was taken at the opening; so too each flit behind that. */
+uint8_t chi_observer_take(ChiObserver *observer, const ChiSeen *seen);
+
+/* Tells the first fault. Where there is none all numbers are 0, but `told` and `wanted` 255. */
+uint8_t chi_observer_fault(ChiObserver *observer, ChiObserverFault *fault);
+
+/* Writes the first fault in words, as `chihome observe` prints it of a trace whose lines have the flits' numbers, without a
+ * line end and without a 0 behind it; none where there is no fault. `length` is how many bytes they are. CHI_JournalFull
+ * where there is not room for all; CHI_NoMemory. */
+uint8_t chi_observer_text(ChiObserver *observer, uint8_t *bytes, size_t room, size_t *length);
+
+/* Tells how much it has seen, and what it holds. */
+uint8_t chi_observer_counts(ChiObserver *observer, ChiObserverCounts *counts);
+
+/* Tells the id of a place among those that it holds, from 0. CHI_OutOfRange behind their end. A place is an id's until the
+ * next flit is taken. */
+uint8_t chi_observer_opened(ChiObserver *observer, uint32_t place, ChiOpenId *id);
+
+/* Tells the account of a place among those that it holds, from 0. CHI_OutOfRange behind their end. */
+uint8_t chi_observer_account(ChiObserver *observer, uint32_t place, ChiAccount *account);
+
+/* Closes the handle, and frees the observer. */
+uint8_t chi_observer_close(ChiObserver *observer);
+
 /* The version of the library, as CHI_VERSION. */
 const char *chi_version(void);
 
@@ -479,6 +757,11 @@ const char *chi_message_name(uint8_t message); /* ChiMessage: "CompData_UC" */
 const char *chi_state_name(uint8_t state);     /* ChiState: "UC" */
 const char *chi_refusal_name(uint8_t answer);  /* ChiAnswer: "NoFlit", and "OK", "Damaged", "Closed" and so on */
 const char *chi_reason_name(uint8_t reason);   /* ChiReason: "NobodyAsks" */
+const char *chi_opcode_name(uint8_t opcode);            /* ChiOpcode: "ReadShared" */
+const char *chi_resp_name(uint8_t resp);                /* ChiResp: "SC_PD" */
+const char *chi_told_name(uint8_t told);                /* ChiTold: "UCOrI" */
+const char *chi_id_form_name(uint8_t form);             /* ChiIdForm: "Buffer" */
+const char *chi_observer_reason_name(uint8_t reason);   /* ChiObserverReason: "NotOpen" */
 
 /* Why no run of the model sends a flit, in words: a ChiReason's text, and "?" of another number. */
 const char *chi_reason_text(uint8_t reason);
@@ -509,6 +792,15 @@ CHI_LAYOUT(sizeof(ChiAudit) == 24 && offsetof(ChiAudit, coherent) == 16);
 CHI_LAYOUT(sizeof(ChiFault) == 176 && offsetof(ChiFault, number) == 8 && offsetof(ChiFault, since) == 16);
 CHI_LAYOUT(offsetof(ChiFault, differs) == 24 && offsetof(ChiFault, expected) == 32 && offsetof(ChiFault, sent) == 96);
 CHI_LAYOUT(sizeof(ChiOpen) == 5 && offsetof(ChiOpen, snoop) == 2 && offsetof(ChiOpen, write_data) == 4);
+CHI_LAYOUT(sizeof(ChiObserver) == 8 && sizeof(ChiObserverConfig) == 16 && offsetof(ChiObserverConfig, requesters) == 12);
+CHI_LAYOUT(sizeof(ChiSeen) == 96 && offsetof(ChiSeen, words) == 16 && offsetof(ChiSeen, source) == 80);
+CHI_LAYOUT(offsetof(ChiSeen, opcode) == 88 && offsetof(ChiSeen, mask) == 94);
+CHI_LAYOUT(sizeof(ChiObserverFault) == 104 && offsetof(ChiObserverFault, expected) == 24);
+CHI_LAYOUT(offsetof(ChiObserverFault, node) == 88 && offsetof(ChiObserverFault, reason) == 96);
+CHI_LAYOUT(sizeof(ChiObserverCounts) == 80 && offsetof(ChiObserverCounts, ids) == 48);
+CHI_LAYOUT(offsetof(ChiObserverCounts, requesters) == 76);
+CHI_LAYOUT(sizeof(ChiOpenId) == 32 && offsetof(ChiOpenId, node) == 16 && offsetof(ChiOpenId, form) == 22);
+CHI_LAYOUT(sizeof(ChiAccount) == 56 && offsetof(ChiAccount, node) == 48 && offsetof(ChiAccount, credit) == 52);
 #undef CHI_LAYOUT
 
 #ifdef __cplusplus

@@ -38,6 +38,8 @@ enum class Answer : std::uint8_t {
     OutOfRange = CHI_OutOfRange,
     NotOpen = CHI_NotOpen,
     NoCredit = CHI_NoCredit,
+    Full = CHI_Full,
+    SetAside = CHI_SetAside,
     OtherVersion = CHI_OtherVersion,
     OtherSize = CHI_OtherSize,
     Damaged = CHI_Damaged,
@@ -146,6 +148,120 @@ enum class Reason : std::uint8_t {
     FormOfCopy = CHI_FormOfCopy,
     OtherReason = CHI_OtherReason,
     OtherCredit = CHI_OtherCredit
+};
+
+/* The opcodes of flits as an observer is given them (docs/TRACES.md, "Traces" and "Other opcodes"); the last four stand for
+ * opcodes that are none of these: OtherAnswer for those of RSP and DAT whose names begin with `Snp`, OtherReply for the others
+ * of these channels. */
+enum class Opcode : std::uint8_t {
+    None = CHI_Op_None,
+    ReadNotSharedDirty = CHI_Op_ReadNotSharedDirty,
+    ReadShared = CHI_Op_ReadShared,
+    ReadClean = CHI_Op_ReadClean,
+    ReadOnce = CHI_Op_ReadOnce,
+    ReadUnique = CHI_Op_ReadUnique,
+    CleanUnique = CHI_Op_CleanUnique,
+    MakeUnique = CHI_Op_MakeUnique,
+    CleanShared = CHI_Op_CleanShared,
+    CleanInvalid = CHI_Op_CleanInvalid,
+    MakeInvalid = CHI_Op_MakeInvalid,
+    Evict = CHI_Op_Evict,
+    WriteBackFull = CHI_Op_WriteBackFull,
+    WriteCleanFull = CHI_Op_WriteCleanFull,
+    WriteEvictFull = CHI_Op_WriteEvictFull,
+    WriteUniqueFull = CHI_Op_WriteUniqueFull,
+    PCrdReturn = CHI_Op_PCrdReturn,
+    SnpOnce = CHI_Op_SnpOnce,
+    SnpClean = CHI_Op_SnpClean,
+    SnpShared = CHI_Op_SnpShared,
+    SnpNotSharedDirty = CHI_Op_SnpNotSharedDirty,
+    SnpCleanShared = CHI_Op_SnpCleanShared,
+    SnpUnique = CHI_Op_SnpUnique,
+    SnpCleanInvalid = CHI_Op_SnpCleanInvalid,
+    SnpMakeInvalid = CHI_Op_SnpMakeInvalid,
+    RetryAck = CHI_Op_RetryAck,
+    Comp = CHI_Op_Comp,
+    CompDBIDResp = CHI_Op_CompDBIDResp,
+    PCrdGrant = CHI_Op_PCrdGrant,
+    SnpResp = CHI_Op_SnpResp,
+    CompAck = CHI_Op_CompAck,
+    CompData = CHI_Op_CompData,
+    SnpRespData = CHI_Op_SnpRespData,
+    CopyBackWrData = CHI_Op_CopyBackWrData,
+    NonCopyBackWrData = CHI_Op_NonCopyBackWrData,
+    Load = CHI_Op_Load,
+    Store = CHI_Op_Store,
+    OtherRequest = CHI_Op_OtherRequest,
+    OtherSnoop = CHI_Op_OtherSnoop,
+    OtherAnswer = CHI_Op_OtherAnswer,
+    OtherReply = CHI_Op_OtherReply
+};
+
+/* What the Resp field of a flit holds. */
+enum class Resp : std::uint8_t {
+    I = CHI_Resp_I,
+    SC = CHI_Resp_SC,
+    UC = CHI_Resp_UC,
+    UD = CHI_Resp_UD,
+    SD = CHI_Resp_SD,
+    I_PD = CHI_Resp_I_PD,
+    SC_PD = CHI_Resp_SC_PD,
+    UC_PD = CHI_Resp_UC_PD,
+    UD_PD = CHI_Resp_UD_PD,
+    SD_PD = CHI_Resp_SD_PD
+};
+
+/* What flits have told of a copy (docs/OBSERVER.md, "What is told of a copy"). */
+enum class Told : std::uint8_t {
+    I = CHI_Told_I,
+    SC = CHI_Told_SC,
+    SCOrI = CHI_Told_SCOrI,
+    UC = CHI_Told_UC,
+    UCOrI = CHI_Told_UCOrI,
+    UCE = CHI_Told_UCE,
+    UCEOrI = CHI_Told_UCEOrI,
+    UCOrUCE = CHI_Told_UCOrUCE,
+    UD = CHI_Told_UD,
+    SD = CHI_Told_SD,
+    Writing = CHI_Told_Writing
+};
+
+/* What an open id is named by (docs/OBSERVER.md, "Ids and credits"). */
+enum class IdForm : std::uint8_t {
+    None = CHI_Id_None,
+    Request = CHI_Id_Request,
+    Buffer = CHI_Id_Buffer,
+    Snoop = CHI_Id_Snoop,
+    Retried = CHI_Id_Retried
+};
+
+/* Why an observer doesn't take a flit (docs/OBSERVER.md, "Faults" and "Ids and credits"). */
+enum class ObserverReason : std::uint8_t {
+    None = CHI_Fault_None,
+    InUse = CHI_Fault_InUse,
+    NotOpen = CHI_Fault_NotOpen,
+    Unfinished = CHI_Fault_Unfinished,
+    WordAgain = CHI_Fault_WordAgain,
+    WrongAddress = CHI_Fault_WrongAddress,
+    NotRetryable = CHI_Fault_NotRetryable,
+    OtherType = CHI_Fault_OtherType,
+    NothingRetried = CHI_Fault_NothingRetried,
+    NoCredit = CHI_Fault_NoCredit,
+    NoDbid = CHI_Fault_NoDbid,
+    Form = CHI_Fault_Form,
+    OtherHome = CHI_Fault_OtherHome,
+    NotJudged = CHI_Fault_NotJudged,
+    NoAgent = CHI_Fault_NoAgent,
+    NotSent = CHI_Fault_NotSent,
+    NotDue = CHI_Fault_NotDue,
+    Busy = CHI_Fault_Busy,
+    NoMoment = CHI_Fault_NoMoment,
+    NoOverwriter = CHI_Fault_NoOverwriter,
+    NoDuty = CHI_Fault_NoDuty,
+    OtherWords = CHI_Fault_OtherWords,
+    OtherCopy = CHI_Fault_OtherCopy,
+    Lost = CHI_Fault_Lost,
+    Other = CHI_Fault_Other
 };
 
 /* What an action gives, how far a request has come, what a line serves, what an arrival came to, and where a released
@@ -276,6 +392,116 @@ struct Open {
     bool snoop = false;
     bool completion = false;
     bool write_data = false;
+};
+
+/* What an observer is opened for: so many lines of memory that flits touch, ids that are open at once, accounts of credits,
+ * requesters and homes. Of credits there are 2 or 4 types, each with its kinds of request, or, as 0, any with any kind; with
+ * early grants monitors stand at the requesters, which may see a grant before its RetryAck. */
+struct ObserverConfig {
+    std::uint32_t lines = 1024;
+    std::uint32_t ids = 1024;
+    std::uint32_t accounts = 256;
+    std::uint8_t requesters = 32;
+    std::uint8_t homes = 1;
+    std::uint8_t types = 0;
+    bool early_grants = false;
+};
+
+/* A flit, whole, as a monitor sees it, or a load or a store of a processor. Fields that its opcode hasn't may hold anything
+ * (ChiSeen of chihome.h says which it has): the address lacks where it isn't known of a response or data, the DBID where
+ * none is named, and of data in beats the mask has a bit for each word of this beat. A flit without a number of its own has
+ * the one behind that of the flit before. */
+struct Seen {
+    Opcode opcode = Opcode::None;
+    std::uint16_t source = 0;
+    std::uint16_t target = 0;
+    std::uint16_t txn = 0;
+    std::optional<std::uint64_t> address;
+    Resp resp = Resp::I;
+    std::optional<std::uint16_t> dbid;
+    bool allow_retry = true;
+    std::uint8_t credit = 0;
+    std::uint8_t mask = 255;
+    Words words = {};
+    std::optional<std::uint64_t> number;
+};
+
+/* The first flit that an observer doesn't take: its number, its requester and its home, its line of memory where one is known,
+ * and why, also as text. It may name another node, whose copy is in the way or which is the line's home; the id that the
+ * reason rests on; what was told of the copy that it speaks of; the number of the flit that has told it; the credit type that
+ * it has to be; and of data the words that are known in place of those that differ. */
+struct ObserverFault {
+    ObserverReason reason = ObserverReason::None;
+    std::uint64_t number = 0;
+    std::uint16_t node = 0;
+    std::uint16_t home = 0;
+    std::optional<std::uint64_t> line;
+    std::optional<std::uint16_t> other;
+    IdForm form = IdForm::None;
+    std::optional<std::uint16_t> id;
+    std::optional<Told> told;
+    std::optional<std::uint64_t> since;
+    std::optional<std::uint8_t> wanted;
+    std::array<std::optional<std::uint64_t>, 8> expected = {};
+    std::string text;
+};
+
+/* The first line of memory that was set aside, and the number of the flit that did it. */
+struct Aside {
+    std::uint64_t line = 0;
+    std::uint64_t number = 0;
+};
+
+/* How much an observer has seen: flits, of which data in beats are one, loads and stores, lines of memory, and those that were
+ * set aside; and what it holds: ids, open or not, accounts of credits, what is open, and how many accounts have credits that
+ * are owed or unused. */
+struct ObserverCounts {
+    std::uint64_t flits = 0;
+    std::uint64_t accesses = 0;
+    std::uint64_t lines = 0;
+    std::uint64_t aside = 0;
+    std::optional<Aside> first_aside;
+    std::uint32_t ids = 0;
+    std::uint32_t accounts = 0;
+    std::uint32_t requests = 0;
+    std::uint32_t completions = 0;
+    std::uint32_t snoops = 0;
+    std::uint32_t retried = 0;
+    std::uint32_t unsettled = 0;
+    std::uint8_t requesters = 0;
+    std::uint8_t homes = 0;
+    /* Whether nothing is open, as it should be at the end of a run. */
+    bool is_complete() const { return (requests | completions | snoops | retried | unsettled) == 0; }
+};
+
+/* An id that an observer holds: its line of memory, its requester and its home, the opcode of its request or snoop, and the
+ * number of the flit that opened it. It isn't open where its line is set aside, or the retried request surely cancelled. Of
+ * data in beats a bit is set for each word that lacks; a retried request waits for a credit type. */
+struct OpenId {
+    IdForm form = IdForm::None;
+    std::uint16_t id = 0;
+    std::uint16_t node = 0;
+    std::uint16_t home = 0;
+    std::uint64_t line = 0;
+    Opcode opcode = Opcode::None;
+    std::uint64_t since = 0;
+    bool open = false;
+    std::uint8_t lacks = 0;
+    std::optional<std::uint8_t> waits;
+};
+
+/* The credits of a type of a requester from a home: promised by RetryAcks, granted, spent and returned; those that are owed
+ * aren't granted yet, and those that are unused neither spent nor returned. */
+struct Account {
+    std::uint16_t node = 0;
+    std::uint16_t home = 0;
+    std::uint8_t credit = 0;
+    std::uint64_t promised = 0;
+    std::uint64_t granted = 0;
+    std::uint64_t spent = 0;
+    std::uint64_t returned = 0;
+    std::uint64_t owed = 0;
+    std::uint64_t unused = 0;
 };
 
 /* An agent's copy of a line. */
@@ -530,6 +756,86 @@ inline Release release(const ChiRelease &from) {
     to.form = ReleaseForm(from.release);
     if (from.release == CHI_Granted) to.agent = from.agent;
     return to;
+}
+
+inline ChiObserverConfig config(const ObserverConfig &from) {
+    return {from.lines, from.ids, from.accounts, from.requesters, from.homes, from.types, from.early_grants};
+}
+
+inline ChiSeen seen(const Seen &from, std::uint64_t number) {
+    ChiSeen to = {};
+    to.number = number;
+    to.address = from.address.value_or(0);
+    to.has_address = from.address.has_value();
+    to.source = from.source;
+    to.target = from.target;
+    to.txn = from.txn;
+    to.dbid = from.dbid.value_or(0);
+    to.has_dbid = from.dbid.has_value();
+    to.opcode = layout::number(from.opcode);
+    to.resp = layout::number(from.resp);
+    to.credit = from.credit;
+    to.allow_retry = from.allow_retry;
+    to.mask = from.mask;
+    for (std::size_t word = 0; word < 8; word++) to.words[word] = from.words[word];
+    return to;
+}
+
+inline std::optional<ObserverFault> fault(const ChiObserverFault &from) {
+    if (from.reason == CHI_Fault_None) return std::nullopt;
+    ObserverFault to;
+    to.reason = ObserverReason(from.reason);
+    to.number = from.number;
+    to.node = from.node;
+    to.home = from.home;
+    if (from.has_line != 0) to.line = from.line;
+    if (from.has_other != 0) to.other = from.other;
+    to.form = IdForm(from.form);
+    if (from.form != CHI_Id_None) to.id = from.id;
+    if (from.told != CHI_Nobody) to.told = Told(from.told);
+    if (from.since != 0) to.since = from.since;
+    if (from.wanted != CHI_Nobody) to.wanted = from.wanted;
+    for (std::size_t word = 0; word < 8; word++)
+        if ((from.differs >> word & 1) != 0) to.expected[word] = from.expected[word];
+    return to;
+}
+
+inline ObserverCounts counts(const ChiObserverCounts &from) {
+    ObserverCounts to;
+    to.flits = from.flits;
+    to.accesses = from.accesses;
+    to.lines = from.lines;
+    to.aside = from.aside;
+    if (from.aside_number != 0) to.first_aside = Aside{from.aside_line, from.aside_number};
+    to.ids = from.ids;
+    to.accounts = from.accounts;
+    to.requests = from.requests;
+    to.completions = from.completions;
+    to.snoops = from.snoops;
+    to.retried = from.retried;
+    to.unsettled = from.unsettled;
+    to.requesters = from.requesters;
+    to.homes = from.homes;
+    return to;
+}
+
+inline OpenId opened(const ChiOpenId &from) {
+    OpenId to;
+    to.form = IdForm(from.form);
+    to.id = from.id;
+    to.node = from.node;
+    to.home = from.home;
+    to.line = from.line;
+    to.opcode = Opcode(from.opcode);
+    to.since = from.since;
+    to.open = from.open != 0;
+    to.lacks = from.lacks;
+    if (from.waits != CHI_Nobody) to.waits = from.waits;
+    return to;
+}
+
+inline Account account(const ChiAccount &from) {
+    return {from.node, from.home, from.credit, from.promised, from.granted, from.spent, from.returned, from.owed, from.unused};
 }
 
 /* What a call that answered `answer` came to. */
@@ -893,6 +1199,98 @@ class Monitor {
     ChiMonitor handle_ = {nullptr};
 };
 
+/* An observer of any home and any caches, which is given the flits that were seen, in the order in which their senders put
+ * them on their ports, and finds the first that isn't safe or that nothing explains (docs/OBSERVER.md). Closed until it is
+ * opened or moved to, and after it was moved from; each call on a closed one is answered Answer::Closed. */
+class Observer {
+  public:
+    Observer() = default;
+    Observer(Observer &&other) noexcept
+        : handle_(std::exchange(other.handle_, ChiObserver{nullptr})), last_(std::exchange(other.last_, 0)) {}
+    Observer &operator=(Observer &&other) noexcept {
+        if (this != &other) {
+            close();
+            handle_ = std::exchange(other.handle_, ChiObserver{nullptr});
+            last_ = std::exchange(other.last_, 0);
+        }
+        return *this;
+    }
+    ~Observer() { close(); }
+
+    /* An observer for so much, that has seen no flit. OutOfRange where a size is outside its limits; NoMemory. */
+    static Outcome<Observer> open(const ObserverConfig &config) {
+        Observer opened;
+        const ChiObserverConfig sizes = layout::config(config);
+        const std::uint8_t answer = chi_observer_open(&opened.handle_, &sizes);
+        return layout::outcome(answer, std::move(opened));
+    }
+
+    /* Takes the next flit. SetAside where it is taken and its line is set aside, by it or before it. Fault where the ids, the
+     * credits or its line don't allow it, and of each behind that; Full where there is no room for what it would add;
+     * OutOfRange of a number that is none of an enum's, number 0, and where a field lacks: the DBID of a CompDBIDResp, or
+     * each word of data. */
+    Answer take(const Seen &seen) {
+        const std::uint64_t number = seen.number.value_or(last_ + 1);
+        const ChiSeen told = layout::seen(seen, number);
+        const Answer answer = Answer(chi_observer_take(&handle_, &told));
+        if (answer == Answer::OK || answer == Answer::SetAside) last_ = number;
+        return answer;
+    }
+
+    /* The first fault, if there is one. */
+    Outcome<std::optional<ObserverFault>> fault() {
+        ChiObserverFault told;
+        const std::uint8_t answer = chi_observer_fault(&handle_, &told);
+        std::optional<ObserverFault> first = layout::fault(told);
+        if (first) first->text = text();
+        return layout::outcome(answer, std::move(first));
+    }
+
+    /* The first fault in words, as `chihome observe` prints it of a trace whose lines have the flits' numbers; empty where
+     * there is none. */
+    std::string text() {
+        std::uint8_t bytes[1024];
+        std::size_t length = 0;
+        std::uint8_t answer = chi_observer_text(&handle_, bytes, sizeof bytes, &length);
+        if (answer == CHI_OK) return std::string(bytes, bytes + length);
+        if (answer != CHI_JournalFull) return "";
+        std::string longer(length, ' ');
+        answer = chi_observer_text(&handle_, reinterpret_cast<std::uint8_t *>(&longer[0]), longer.size(), &length);
+        return answer == CHI_OK ? longer : "";
+    }
+
+    /* How much it has seen, and what it holds. */
+    Outcome<ObserverCounts> counts() {
+        ChiObserverCounts told;
+        const std::uint8_t answer = chi_observer_counts(&handle_, &told);
+        return layout::outcome(answer, layout::counts(told));
+    }
+
+    /* The id, and the account of credits, of a place among those that it holds, from 0. OutOfRange behind their end. */
+    Outcome<OpenId> opened(std::uint32_t place) {
+        ChiOpenId told;
+        const std::uint8_t answer = chi_observer_opened(&handle_, place, &told);
+        return layout::outcome(answer, layout::opened(told));
+    }
+    Outcome<Account> account(std::uint32_t place) {
+        ChiAccount told;
+        const std::uint8_t answer = chi_observer_account(&handle_, place, &told);
+        return layout::outcome(answer, layout::account(told));
+    }
+
+    bool is_open() const { return handle_.at != nullptr; }
+
+    /* Frees what is open. Closed where nothing is. */
+    Answer close() noexcept {
+        last_ = 0;
+        return is_open() ? Answer(chi_observer_close(&handle_)) : Answer::Closed;
+    }
+
+  private:
+    ChiObserver handle_ = {nullptr};
+    std::uint64_t last_ = 0; /* the number of the last flit that was taken */
+};
+
 /* The version of the library, and the names of numbers, as chihome prints them. */
 inline const char *version() { return chi_version(); }
 inline const char *name(Step it) { return chi_step_name(layout::number(it)); }
@@ -901,6 +1299,11 @@ inline const char *name(Message it) { return chi_message_name(layout::number(it)
 inline const char *name(State it) { return chi_state_name(layout::number(it)); }
 inline const char *name(Reason it) { return chi_reason_name(layout::number(it)); }
 inline const char *name(Answer it) { return chi_refusal_name(layout::number(it)); }
+inline const char *name(Opcode it) { return chi_opcode_name(layout::number(it)); }
+inline const char *name(Resp it) { return chi_resp_name(layout::number(it)); }
+inline const char *name(Told it) { return chi_told_name(layout::number(it)); }
+inline const char *name(IdForm it) { return chi_id_form_name(layout::number(it)); }
+inline const char *name(ObserverReason it) { return chi_observer_reason_name(layout::number(it)); }
 
 }  // namespace chihome
 

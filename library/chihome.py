@@ -1,8 +1,9 @@
 """chihome: a proved reference model of an AMBA CHI coherent system in miniature, from Python.
 
-Three things can be opened: a `Slice`, whose lines are stepped action by action; a whole `Node` on one thread, with its
-tracker and its requesters; and a `Monitor`, which is given flits and finds the first that no run of the model sends. Each
-closes itself at the end of its `with`:
+Four things can be opened: a `Slice`, whose lines are stepped action by action; a whole `Node` on one thread, with its
+tracker and its requesters; a `Monitor`, which is given flits and finds the first that no run of the model sends; and an
+`Observer`, which is given those of any home and any caches, and finds the first that isn't safe or that nothing explains.
+Each closes itself at the end of its `with`:
 
     import chihome
     from chihome import Kind, Step
@@ -31,7 +32,7 @@ import itertools
 import os
 from ctypes import POINTER, byref, c_char_p, c_size_t, c_uint8, c_uint16, c_uint32, c_uint64, c_void_p
 from pathlib import Path
-from typing import Dict, FrozenSet, Iterator, List, NamedTuple, Optional, Sequence, Tuple
+from typing import Dict, FrozenSet, Iterator, List, NamedTuple, Optional, Sequence, Tuple, Union
 
 
 # The numbers of chihome.h, without its CHI_.
@@ -53,6 +54,8 @@ class Answer(enum.IntEnum):
     OutOfRange = 10
     NotOpen = 11
     NoCredit = 12
+    Full = 247
+    SetAside = 248
     OtherVersion = 249
     OtherSize = 250
     Damaged = 251
@@ -177,6 +180,125 @@ class Reason(enum.IntEnum):
     FormOfCopy = 18
     OtherReason = 19
     OtherCredit = 20
+
+
+class Opcode(enum.IntEnum):
+    """The opcodes of flits as an observer is given them (docs/TRACES.md, "Traces" and "Other opcodes"). The last four stand
+    for opcodes that are none of these: OtherAnswer for those of RSP and DAT whose names begin with `Snp`, OtherReply for the
+    others of these channels."""
+
+    None_ = 0
+    ReadNotSharedDirty = 1
+    ReadShared = 2
+    ReadClean = 3
+    ReadOnce = 4
+    ReadUnique = 5
+    CleanUnique = 6
+    MakeUnique = 7
+    CleanShared = 8
+    CleanInvalid = 9
+    MakeInvalid = 10
+    Evict = 11
+    WriteBackFull = 12
+    WriteCleanFull = 13
+    WriteEvictFull = 14
+    WriteUniqueFull = 15
+    PCrdReturn = 16
+    SnpOnce = 17
+    SnpClean = 18
+    SnpShared = 19
+    SnpNotSharedDirty = 20
+    SnpCleanShared = 21
+    SnpUnique = 22
+    SnpCleanInvalid = 23
+    SnpMakeInvalid = 24
+    RetryAck = 25
+    Comp = 26
+    CompDBIDResp = 27
+    PCrdGrant = 28
+    SnpResp = 29
+    CompAck = 30
+    CompData = 31
+    SnpRespData = 32
+    CopyBackWrData = 33
+    NonCopyBackWrData = 34
+    Load = 35
+    Store = 36
+    OtherRequest = 37
+    OtherSnoop = 38
+    OtherAnswer = 39
+    OtherReply = 40
+
+
+class Resp(enum.IntEnum):
+    """What the Resp field of a flit holds."""
+
+    I = 0
+    SC = 1
+    UC = 2
+    UD = 3
+    SD = 4
+    I_PD = 5
+    SC_PD = 6
+    UC_PD = 7
+    UD_PD = 8
+    SD_PD = 9
+
+
+class Told(enum.IntEnum):
+    """What flits have told of a copy (docs/OBSERVER.md, "What is told of a copy")."""
+
+    I = 0
+    SC = 1
+    SCOrI = 2
+    UC = 3
+    UCOrI = 4
+    UCE = 5
+    UCEOrI = 6
+    UCOrUCE = 7
+    UD = 8
+    SD = 9
+    Writing = 10
+
+
+class IdForm(enum.IntEnum):
+    """What an open id is named by (docs/OBSERVER.md, "Ids and credits")."""
+
+    None_ = 0
+    Request = 1
+    Buffer = 2
+    Snoop = 3
+    Retried = 4
+
+
+class ObserverReason(enum.IntEnum):
+    """Why an observer doesn't take a flit (docs/OBSERVER.md, "Faults" and "Ids and credits")."""
+
+    None_ = 0
+    InUse = 1
+    NotOpen = 2
+    Unfinished = 3
+    WordAgain = 4
+    WrongAddress = 5
+    NotRetryable = 6
+    OtherType = 7
+    NothingRetried = 8
+    NoCredit = 9
+    NoDbid = 10
+    Form = 11
+    OtherHome = 12
+    NotJudged = 13
+    NoAgent = 14
+    NotSent = 15
+    NotDue = 16
+    Busy = 17
+    NoMoment = 18
+    NoOverwriter = 19
+    NoDuty = 20
+    OtherWords = 21
+    OtherCopy = 22
+    Lost = 23
+    Other = 24
 
 
 class EffectForm(enum.IntEnum):
@@ -311,6 +433,12 @@ class NoCredit(Refused):
     number, name = Answer.NoCredit, "NoCredit"
 
 
+class Full(Refused):
+    """there is no room in the observer for what the flit would add"""
+
+    number, name = Answer.Full, "Full"
+
+
 class OtherVersion(Refused):
     """a snapshot of another version"""
 
@@ -336,7 +464,7 @@ class NotKept(Refused):
 
 
 class Fault(Refused):
-    """no run of the model sends the flit, or one before it"""
+    """no run of the model sends the flit, or the observer doesn't take it; or so of one before it"""
 
     number, name = Answer.Fault, "Fault"
 
@@ -457,13 +585,50 @@ class _ChiMonitor(ctypes.Structure):
     _fields_ = [("at", c_void_p)]
 
 
+class _ChiObserverConfig(ctypes.Structure):
+    _fields_ = [(it, c_uint32) for it in ("lines", "ids", "accounts")] + [
+        (it, c_uint8) for it in ("requesters", "homes", "types", "early_grants")]
+
+
+class _ChiSeen(ctypes.Structure):
+    _fields_ = [("number", c_uint64), ("address", c_uint64), ("words", c_uint64 * 8)] + [
+        (it, c_uint16) for it in ("source", "target", "txn", "dbid")] + [
+        (it, c_uint8) for it in ("opcode", "resp", "credit", "allow_retry", "has_address", "has_dbid", "mask", "reserved")]
+
+
+class _ChiObserverFault(ctypes.Structure):
+    _fields_ = [("number", c_uint64), ("line", c_uint64), ("since", c_uint64), ("expected", c_uint64 * 8)] + [
+        (it, c_uint16) for it in ("node", "home", "other", "id")] + [
+        (it, c_uint8) for it in ("reason", "has_line", "has_other", "form", "told", "differs", "wanted", "reserved")]
+
+
+class _ChiObserverCounts(ctypes.Structure):
+    _fields_ = [(it, c_uint64) for it in ("flits", "accesses", "lines", "aside", "aside_number", "aside_line")] + [
+        (it, c_uint32) for it in ("ids", "accounts", "requests", "completions", "snoops", "retried", "unsettled")] + [
+        ("requesters", c_uint8), ("homes", c_uint8), ("reserved", c_uint8 * 2)]
+
+
+class _ChiOpenId(ctypes.Structure):
+    _fields_ = [("line", c_uint64), ("since", c_uint64), ("node", c_uint16), ("home", c_uint16), ("id", c_uint16)] + [
+        (it, c_uint8) for it in ("form", "opcode", "open", "lacks", "waits")] + [("reserved", c_uint8 * 5)]
+
+
+class _ChiAccount(ctypes.Structure):
+    _fields_ = [(it, c_uint64) for it in ("promised", "granted", "spent", "returned", "owed", "unused")] + [
+        ("node", c_uint16), ("home", c_uint16), ("credit", c_uint8), ("reserved", c_uint8 * 3)]
+
+
+class _ChiObserver(ctypes.Structure):
+    _fields_ = [("at", c_void_p)]
+
+
 # The calls of chihome.h: what each returns and takes.
 
 _slice, _node, _action, _count = POINTER(_ChiSlice), POINTER(_ChiNode), POINTER(_ChiAction), POINTER(c_uint8)
 _bytes = POINTER(c_uint8)
 _effect, _sent, _release = POINTER(_ChiEffect), POINTER(_ChiSent), POINTER(_ChiRelease)
 _arrival, _line, _flits = POINTER(_ChiArrival), POINTER(_ChiLine), POINTER(_ChiFlits)
-_monitor = POINTER(_ChiMonitor)
+_monitor, _observer = POINTER(_ChiMonitor), POINTER(_ChiObserver)
 
 _CALLS = {
     "chi_slice_open": (c_uint8, [_slice, POINTER(_ChiConfig), c_uint8]),
@@ -503,6 +668,14 @@ _CALLS = {
     "chi_monitor_end": (c_uint8, [_monitor, c_uint8, POINTER(_ChiOpen)]),
     "chi_monitor_explain": (c_uint8, [_monitor, c_uint8]),
     "chi_monitor_close": (c_uint8, [_monitor]),
+    "chi_observer_open": (c_uint8, [_observer, POINTER(_ChiObserverConfig)]),
+    "chi_observer_take": (c_uint8, [_observer, POINTER(_ChiSeen)]),
+    "chi_observer_fault": (c_uint8, [_observer, POINTER(_ChiObserverFault)]),
+    "chi_observer_text": (c_uint8, [_observer, _bytes, c_size_t, POINTER(c_size_t)]),
+    "chi_observer_counts": (c_uint8, [_observer, POINTER(_ChiObserverCounts)]),
+    "chi_observer_opened": (c_uint8, [_observer, c_uint32, POINTER(_ChiOpenId)]),
+    "chi_observer_account": (c_uint8, [_observer, c_uint32, POINTER(_ChiAccount)]),
+    "chi_observer_close": (c_uint8, [_observer]),
     "chi_version": (c_char_p, []),
     "chi_step_name": (c_char_p, [c_uint8]),
     "chi_kind_name": (c_char_p, [c_uint8]),
@@ -511,6 +684,11 @@ _CALLS = {
     "chi_refusal_name": (c_char_p, [c_uint8]),
     "chi_reason_name": (c_char_p, [c_uint8]),
     "chi_reason_text": (c_char_p, [c_uint8]),
+    "chi_opcode_name": (c_char_p, [c_uint8]),
+    "chi_resp_name": (c_char_p, [c_uint8]),
+    "chi_told_name": (c_char_p, [c_uint8]),
+    "chi_id_form_name": (c_char_p, [c_uint8]),
+    "chi_observer_reason_name": (c_char_p, [c_uint8]),
 }
 
 
@@ -659,6 +837,129 @@ class Open(NamedTuple):
     snoop: bool
     completion: bool
     write_data: bool
+
+
+class ObserverConfig(NamedTuple):
+    """What an observer is opened for, as `Observer` takes it."""
+
+    lines: int = 1024
+    ids: int = 1024
+    accounts: int = 256
+    requesters: int = 32
+    homes: int = 1
+    types: int = 0
+    early_grants: bool = False
+
+
+class Seen(NamedTuple):
+    """A flit, whole, as a monitor sees it, or a load or a store of a processor. What its opcode hasn't is not read; ChiSeen of
+    chihome.h says which has what.
+
+    The address is None where it isn't known of a response or data, and the DBID where none is named. Of data `words` are
+    eight, with None for each that is in another beat; of a load or a store the first is its value. A flit without a number
+    of its own has the one behind that of the flit before."""
+
+    opcode: Opcode
+    source: int
+    target: int = 0
+    txn: int = 0
+    address: Optional[int] = None
+    resp: Resp = Resp.I
+    dbid: Optional[int] = None
+    allow_retry: bool = True
+    credit: int = 0
+    words: Sequence[Optional[int]] = ()
+    number: Optional[int] = None
+
+
+class ObserverFault(NamedTuple):
+    """The first flit that an observer doesn't take: its number, its requester and its home, its line of memory where one is
+    known, and why, also as text.
+
+    It may name another node, whose copy is in the way or which is the line's home; the id that the reason rests on; what
+    was told of the copy that it speaks of; the number of the flit that has told it; the credit type that it has to be; and
+    of data the words that are known by the places of those that differ."""
+
+    reason: ObserverReason
+    number: int
+    node: int
+    home: int
+    line: Optional[int]
+    text: str
+    other: Optional[int] = None
+    form: IdForm = IdForm.None_
+    id: Optional[int] = None
+    told: Optional[Told] = None
+    since: Optional[int] = None
+    wanted: Optional[int] = None
+    expected: Dict[int, int] = {}
+
+
+class Aside(NamedTuple):
+    """The first line of memory that was set aside, and the number of the flit that did it."""
+
+    line: int
+    number: int
+
+
+class ObserverCounts(NamedTuple):
+    """How much an observer has seen: flits, of which data in beats are one, loads and stores, lines of memory, and those that
+    were set aside; and what it holds: ids, open or not, accounts of credits, what is open, and how many accounts have
+    credits that are owed or unused."""
+
+    flits: int
+    accesses: int
+    lines: int
+    aside: int
+    first_aside: Optional[Aside]
+    ids: int
+    accounts: int
+    requests: int
+    completions: int
+    snoops: int
+    retried: int
+    unsettled: int
+    requesters: int
+    homes: int
+
+    @property
+    def is_complete(self) -> bool:
+        """Whether nothing is open, as it should be at the end of a run."""
+        return not any((self.requests, self.completions, self.snoops, self.retried, self.unsettled))
+
+
+class OpenId(NamedTuple):
+    """An id that an observer holds: its line of memory, its requester and its home, the opcode of its request or snoop, and
+    the number of the flit that opened it.
+
+    It isn't open where its line is set aside, or the retried request surely cancelled. Of data in beats it has the places of
+    the words that lack; a retried request waits for a credit type."""
+
+    form: IdForm
+    id: int
+    node: int
+    home: int
+    line: int
+    opcode: Opcode
+    since: int
+    open: bool
+    lacks: FrozenSet[int]
+    waits: Optional[int]
+
+
+class Account(NamedTuple):
+    """The credits of a type of a requester from a home: promised by RetryAcks, granted, spent and returned; those that are
+    owed aren't granted yet, and those that are unused neither spent nor returned."""
+
+    node: int
+    home: int
+    credit: int
+    promised: int
+    granted: int
+    spent: int
+    returned: int
+    owed: int
+    unused: int
 
 
 class Copy(NamedTuple):
@@ -821,6 +1122,18 @@ def _flit_of(flit: Flit) -> _ChiFlit:
                     words=words)
 
 
+def _seen_of(seen: Seen, number: int) -> _ChiSeen:
+    words = [*seen.words, *[None] * (8 - len(seen.words))]
+    if len(words) != 8 or not all(it is None or 0 <= it < 1 << 64 for it in words):
+        raise ValueError("data are eight words of 64 bits")
+    fields = (seen.source, seen.target, seen.txn, seen.dbid or 0)
+    if not all(0 <= it < 1 << 16 for it in fields) or not 0 <= (seen.address or 0) < 1 << 64 or not 0 <= number < 1 << 64:
+        raise ValueError("nodes and ids have 16 bits, an address and a number 64")
+    mask = sum(1 << place for place, it in enumerate(words) if it is not None)
+    return _ChiSeen(number, seen.address or 0, tuple(it or 0 for it in words), *fields, _byte(seen.opcode), _byte(seen.resp),
+                    _byte(seen.credit), bool(seen.allow_retry), seen.address is not None, seen.dbid is not None, mask)
+
+
 def _request_in(told: _ChiRequest) -> Optional[Request]:
     phase = Phase(told.phase)
     return Request(phase, Kind(told.kind), told.slot) if phase else None
@@ -868,9 +1181,9 @@ def _arrival_in(told: _ChiArrival) -> Arrival:
 
 
 class _Handle:
-    """What slices, nodes and monitors have in common: a handle of the library, which is closed once."""
+    """What slices, nodes, monitors and observers have in common: a handle of the library, which is closed once."""
 
-    def __init__(self, handle: ctypes.Structure, config: Config):
+    def __init__(self, handle: ctypes.Structure, config: Union[Config, ObserverConfig]):
         self._calls = _library()
         self._handle = handle
         self.config = config
@@ -1196,3 +1509,93 @@ class Monitor(_Handle):
         """Explains the flits that were kept of the line: actions of the model are found, and done, and send just these. Fault
         where none are found; NotKept where no flits are kept; OutOfRange; NoMemory."""
         _check(self._calls.chi_monitor_explain(byref(self._handle), _byte(line)))
+
+
+class Observer(_Handle):
+    """An observer of any home and any caches, which is given the flits that were seen, in the order in which their senders
+    put them on their ports, and finds the first that isn't safe or that nothing explains (docs/OBSERVER.md).
+
+    It is for so many lines of memory that flits touch, ids that are open at once, accounts of credits, requesters and homes.
+    Of credits there are 2 or 4 `types`, each with its kinds of request, or, as 0, any with any kind; with `early_grants`
+    monitors stand at the requesters, which may see a grant before its RetryAck. OutOfRange where a size is outside its
+    limits; NoMemory."""
+
+    def __init__(self, lines: int = 1024, ids: int = 1024, accounts: int = 256, requesters: int = 32, homes: int = 1,
+                 types: int = 0, early_grants: bool = False):
+        config = ObserverConfig(lines, ids, accounts, requesters, homes, types, early_grants)
+        super().__init__(_ChiObserver(), config)
+        self._last = 0
+        sizes = [_within(it, 0xFFFFFFFF) for it in config[:3]] + [_byte(it) for it in config[3:]]
+        # (255 homes may be)
+        sizes[4] = homes if 0 <= homes <= 255 else 0
+        _check(self._calls.chi_observer_open(byref(self._handle), byref(_ChiObserverConfig(*sizes))))
+
+    def _close(self) -> int:
+        return self._calls.chi_observer_close(byref(self._handle))
+
+    def take(self, seen: Seen) -> bool:
+        """Takes the next flit; False where its line is set aside, by it or before it, and so isn't judged.
+
+        Fault where the ids, the credits or its line don't allow it, and of each behind that; Full where there is no room for
+        what it would add; OutOfRange of a number that is none of an enum's, number 0, and where something lacks: the DBID of
+        a CompDBIDResp, or each word of data."""
+        number = self._last + 1 if seen.number is None else seen.number
+        answer = self._calls.chi_observer_take(byref(self._handle), byref(_seen_of(seen, number)))
+        if answer not in (Answer.OK, Answer.SetAside):
+            _check(answer)
+        self._last = number
+        return answer == Answer.OK
+
+    def fault(self) -> Optional[ObserverFault]:
+        """The first fault, if there is one."""
+        told = _ChiObserverFault()
+        _check(self._calls.chi_observer_fault(byref(self._handle), byref(told)))
+        if not told.reason:
+            return None
+        expected = {word: told.expected[word] for word in range(8) if told.differs >> word & 1}
+        return ObserverFault(
+            ObserverReason(told.reason), told.number, told.node, told.home, told.line if told.has_line else None,
+            self._text(), told.other if told.has_other else None, IdForm(told.form), told.id if told.form else None,
+            None if told.told == 255 else Told(told.told), told.since or None,
+            None if told.wanted == 255 else told.wanted, expected)
+
+    def _text(self) -> str:
+        """The first fault in words, as `chihome observe` prints it of a trace whose lines have the flits' numbers."""
+        length = c_size_t()
+        answer = self._calls.chi_observer_text(byref(self._handle), (c_uint8 * 1)(), 0, byref(length))
+        if answer != Answer.JournalFull:
+            _check(answer)
+        room = (c_uint8 * max(length.value, 1))()
+        _check(self._calls.chi_observer_text(byref(self._handle), room, length, byref(length)))
+        return bytes(room[:length.value]).decode()
+
+    def counts(self) -> ObserverCounts:
+        """How much it has seen, and what it holds."""
+        told = _ChiObserverCounts()
+        _check(self._calls.chi_observer_counts(byref(self._handle), byref(told)))
+        aside = Aside(told.aside_line, told.aside_number) if told.aside_number else None
+        return ObserverCounts(told.flits, told.accesses, told.lines, told.aside, aside, told.ids, told.accounts, told.requests,
+                              told.completions, told.snoops, told.retried, told.unsettled, told.requesters, told.homes)
+
+    def opened(self, place: int) -> OpenId:
+        """The id of a place among those that it holds, from 0. OutOfRange behind their end."""
+        told = _ChiOpenId()
+        _check(self._calls.chi_observer_opened(byref(self._handle), _within(place, 0xFFFFFFFF), byref(told)))
+        lacks = frozenset(word for word in range(8) if told.lacks >> word & 1)
+        return OpenId(IdForm(told.form), told.id, told.node, told.home, told.line, Opcode(told.opcode), told.since,
+                      bool(told.open), lacks, None if told.waits == 255 else told.waits)
+
+    def ids(self) -> List[OpenId]:
+        """The ids that it holds."""
+        return [self.opened(place) for place in range(self.counts().ids)]
+
+    def account(self, place: int) -> Account:
+        """The account of credits of a place among those that it holds, from 0. OutOfRange behind their end."""
+        told = _ChiAccount()
+        _check(self._calls.chi_observer_account(byref(self._handle), _within(place, 0xFFFFFFFF), byref(told)))
+        return Account(told.node, told.home, told.credit, told.promised, told.granted, told.spent, told.returned, told.owed,
+                       told.unused)
+
+    def accounts(self) -> List[Account]:
+        """The accounts of credits that it holds."""
+        return [self.account(place) for place in range(self.counts().accounts)]

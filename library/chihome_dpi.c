@@ -7,6 +7,7 @@
 #include <stdlib.h>
 
 typedef uint8_t u8;
+typedef uint16_t u16;
 typedef uint32_t u32;
 typedef unsigned long long u64;
 
@@ -14,6 +15,7 @@ typedef unsigned long long u64;
 #define SLICE(handle) ((handle) == NULL ? &(ChiSlice){0} : (ChiSlice *)(handle))
 #define MONITOR(handle) ((handle) == NULL ? &(ChiMonitor){0} : (ChiMonitor *)(handle))
 #define NODE(handle) ((handle) == NULL ? &(ChiNode){0} : (ChiNode *)(handle))
+#define OBSERVER(handle) ((handle) == NULL ? &(ChiObserver){0} : (ChiObserver *)(handle))
 
 static ChiConfig sizes(u8 agents, u8 lines, u8 slices, u8 profile, u64 entries, u32 journal) {
     ChiConfig config = {.agents = agents, .lines = lines, .slices = slices, .profile = profile, .journal = journal};
@@ -53,6 +55,11 @@ static void tell_words(const uint64_t *words, u32 *data) {
         data[2 * word] = (u32)words[word];
         data[2 * word + 1] = (u32)(words[word] >> 32);
     }
+}
+
+/* And the other way round. */
+static void words_in(const u32 *data, uint64_t *words) {
+    for (int word = 0; word < 8; word++) words[word] = (uint64_t)data[2 * word + 1] << 32 | data[2 * word];
 }
 
 static void tell_flit(const ChiFlit *flit, u8 *message, u8 *kind, u8 *slot, u8 *allow_retry, u8 *credit, u32 *data) {
@@ -442,8 +449,7 @@ void *chi_dpi_monitor_open(u8 profile, u8 agents, u8 lines, u32 kept, u8 *answer
 u8 chi_dpi_monitor_flit(void *monitor, u8 line, u8 agent, u8 message, u8 kind, u8 allow_retry, u8 credit, const u32 *data) {
     ChiSent sent = {.agent = agent,
         .flit = {.message = message, .kind = kind, .allow_retry = allow_retry, .credit = credit}};
-    for (int word = 0; word < 8; word++)
-        sent.flit.words[word] = (uint64_t)data[2 * word + 1] << 32 | data[2 * word];
+    words_in(data, sent.flit.words);
     return chi_monitor_flit(MONITOR(monitor), line, &sent);
 }
 
@@ -488,5 +494,131 @@ u8 chi_dpi_monitor_explain(void *monitor, u8 line) { return chi_monitor_explain(
 u8 chi_dpi_monitor_close(void *monitor) {
     u8 answer = chi_monitor_close(MONITOR(monitor));
     free(monitor);
+    return answer;
+}
+
+/* An observer, and the text of its first fault. */
+typedef struct {
+    ChiObserver observer;
+    uint8_t *text;
+} Observed;
+
+void *chi_dpi_observer_open(u32 lines, u32 ids, u32 accounts, u8 requesters, u8 homes, u8 types, u8 early_grants,
+                            u8 *answer) {
+    ChiObserverConfig config = {.lines = lines, .ids = ids, .accounts = accounts, .requesters = requesters,
+        .homes = homes, .types = types, .early_grants = early_grants};
+    Observed *observer = calloc(1, sizeof *observer);
+    *answer = observer == NULL ? CHI_NoMemory : chi_observer_open(&observer->observer, &config);
+    if (*answer == CHI_OK) return observer;
+    free(observer);
+    return NULL;
+}
+
+u8 chi_dpi_observer_take(void *observer, u64 number, u8 opcode, u16 source, u16 target, u16 txn, u8 has_address, u64 address,
+                         u8 resp, u8 has_dbid, u16 dbid, u8 allow_retry, u8 credit, u8 mask, const u32 *data) {
+    ChiSeen seen = {.number = number, .address = address, .source = source, .target = target, .txn = txn, .dbid = dbid,
+        .opcode = opcode, .resp = resp, .credit = credit, .allow_retry = allow_retry, .has_address = has_address,
+        .has_dbid = has_dbid, .mask = mask};
+    words_in(data, seen.words);
+    return chi_observer_take(OBSERVER(observer), &seen);
+}
+
+u8 chi_dpi_observer_fault(void *observer, u8 *reason, u64 *number, u16 *node, u16 *home, u8 *has_line, u64 *line,
+                          u8 *has_other, u16 *other, u8 *form, u16 *id, u8 *told, u64 *since, u8 *wanted, u8 *differs,
+                          u32 *expected) {
+    ChiObserverFault fault;
+    u8 answer = chi_observer_fault(OBSERVER(observer), &fault);
+    *reason = fault.reason;
+    *number = fault.number;
+    *node = fault.node;
+    *home = fault.home;
+    *has_line = fault.has_line;
+    *line = fault.line;
+    *has_other = fault.has_other;
+    *other = fault.other;
+    *form = fault.form;
+    *id = fault.id;
+    *told = fault.told;
+    *since = fault.since;
+    *wanted = fault.wanted;
+    *differs = fault.differs;
+    tell_words(fault.expected, expected);
+    return answer;
+}
+
+const char *chi_dpi_observer_text(void *observer) {
+    Observed *observed = observer;
+    uint8_t none;
+    size_t length = 0;
+    if (observed == NULL || chi_observer_text(&observed->observer, &none, 0, &length) != CHI_JournalFull) return "";
+    uint8_t *text = realloc(observed->text, length + 1);
+    if (text == NULL) return "";
+    observed->text = text;
+    if (chi_observer_text(&observed->observer, text, length, &length) != CHI_OK) return "";
+    text[length] = 0;
+    return (const char *)text;
+}
+
+u8 chi_dpi_observer_counts(void *observer, u64 *flits, u64 *accesses, u64 *lines, u64 *aside, u64 *aside_number,
+                           u64 *aside_line, u32 *ids, u32 *accounts, u32 *requests, u32 *completions, u32 *snoops,
+                           u32 *retried, u32 *unsettled, u8 *requesters, u8 *homes) {
+    ChiObserverCounts counts;
+    u8 answer = chi_observer_counts(OBSERVER(observer), &counts);
+    *flits = counts.flits;
+    *accesses = counts.accesses;
+    *lines = counts.lines;
+    *aside = counts.aside;
+    *aside_number = counts.aside_number;
+    *aside_line = counts.aside_line;
+    *ids = counts.ids;
+    *accounts = counts.accounts;
+    *requests = counts.requests;
+    *completions = counts.completions;
+    *snoops = counts.snoops;
+    *retried = counts.retried;
+    *unsettled = counts.unsettled;
+    *requesters = counts.requesters;
+    *homes = counts.homes;
+    return answer;
+}
+
+u8 chi_dpi_observer_opened(void *observer, u32 place, u8 *form, u16 *id, u16 *node, u16 *home, u64 *line, u8 *opcode,
+                           u64 *since, u8 *is_open, u8 *lacks, u8 *waits) {
+    ChiOpenId opened;
+    u8 answer = chi_observer_opened(OBSERVER(observer), place, &opened);
+    *form = opened.form;
+    *id = opened.id;
+    *node = opened.node;
+    *home = opened.home;
+    *line = opened.line;
+    *opcode = opened.opcode;
+    *since = opened.since;
+    *is_open = opened.open;
+    *lacks = opened.lacks;
+    *waits = opened.waits;
+    return answer;
+}
+
+u8 chi_dpi_observer_account(void *observer, u32 place, u16 *node, u16 *home, u8 *credit, u64 *promised, u64 *granted,
+                            u64 *spent, u64 *returned, u64 *owed, u64 *unspent) {
+    ChiAccount account;
+    u8 answer = chi_observer_account(OBSERVER(observer), place, &account);
+    *node = account.node;
+    *home = account.home;
+    *credit = account.credit;
+    *promised = account.promised;
+    *granted = account.granted;
+    *spent = account.spent;
+    *returned = account.returned;
+    *owed = account.owed;
+    *unspent = account.unused;
+    return answer;
+}
+
+u8 chi_dpi_observer_close(void *observer) {
+    Observed *observed = observer;
+    u8 answer = chi_observer_close(OBSERVER(observer));
+    if (observed != NULL) free(observed->text);
+    free(observed);
     return answer;
 }

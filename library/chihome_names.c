@@ -35,6 +35,23 @@ static const char *const REASON_TEXTS[] = {"there is no fault", "memory ran out"
     "the home doesn't await it", "its copy has another form", "it isn't in the profile",
     "its request needs a credit of another type"};
 
+static const char *const OPCODES[] = {"None", "ReadNotSharedDirty", "ReadShared", "ReadClean", "ReadOnce", "ReadUnique",
+    "CleanUnique", "MakeUnique", "CleanShared", "CleanInvalid", "MakeInvalid", "Evict", "WriteBackFull", "WriteCleanFull",
+    "WriteEvictFull", "WriteUniqueFull", "PCrdReturn", "SnpOnce", "SnpClean", "SnpShared", "SnpNotSharedDirty",
+    "SnpCleanShared", "SnpUnique", "SnpCleanInvalid", "SnpMakeInvalid", "RetryAck", "Comp", "CompDBIDResp", "PCrdGrant",
+    "SnpResp", "CompAck", "CompData", "SnpRespData", "CopyBackWrData", "NonCopyBackWrData", "Load", "Store",
+    "OtherRequest", "OtherSnoop", "OtherAnswer", "OtherReply"};
+
+static const char *const RESPS[] = {"I", "SC", "UC", "UD", "SD", "I_PD", "SC_PD", "UC_PD", "UD_PD", "SD_PD"};
+
+static const char *const TOLDS[] = {"I", "SC", "SCOrI", "UC", "UCOrI", "UCE", "UCEOrI", "UCOrUCE", "UD", "SD", "Writing"};
+
+static const char *const ID_FORMS[] = {"None", "Request", "Buffer", "Snoop", "Retried"};
+
+static const char *const OBSERVER_REASONS[] = {"None", "InUse", "NotOpen", "Unfinished", "WordAgain", "WrongAddress",
+    "NotRetryable", "OtherType", "NothingRetried", "NoCredit", "NoDbid", "Form", "OtherHome", "NotJudged", "NoAgent",
+    "NotSent", "NotDue", "Busy", "NoMoment", "NoOverwriter", "NoDuty", "OtherWords", "OtherCopy", "Lost", "Other"};
+
 static const char *name_in(const char *const *names, size_t count, uint8_t number) {
     return number < count ? names[number] : "?";
 }
@@ -52,6 +69,8 @@ const char *chi_message_name(uint8_t message) { return NAME_IN(MESSAGES, message
 const char *chi_state_name(uint8_t state) { return NAME_IN(STATES, state); }
 
 const char *chi_refusal_name(uint8_t answer) {
+    if (answer == CHI_Full) return "Full";
+    if (answer == CHI_SetAside) return "SetAside";
     if (answer == CHI_OtherVersion) return "OtherVersion";
     if (answer == CHI_OtherSize) return "OtherSize";
     if (answer == CHI_Damaged) return "Damaged";
@@ -65,3 +84,13 @@ const char *chi_refusal_name(uint8_t answer) {
 const char *chi_reason_name(uint8_t reason) { return NAME_IN(REASONS, reason); }
 
 const char *chi_reason_text(uint8_t reason) { return NAME_IN(REASON_TEXTS, reason); }
+
+const char *chi_opcode_name(uint8_t opcode) { return NAME_IN(OPCODES, opcode); }
+
+const char *chi_resp_name(uint8_t resp) { return NAME_IN(RESPS, resp); }
+
+const char *chi_told_name(uint8_t told) { return NAME_IN(TOLDS, told); }
+
+const char *chi_id_form_name(uint8_t form) { return NAME_IN(ID_FORMS, form); }
+
+const char *chi_observer_reason_name(uint8_t reason) { return NAME_IN(OBSERVER_REASONS, reason); }

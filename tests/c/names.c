@@ -19,5 +19,10 @@ int main(void) {
     print_names("State", chi_state_name);
     print_names("Message", chi_message_name);
     print_names("Reason", chi_reason_name);
+    print_names("Opcode", chi_opcode_name);
+    print_names("Resp", chi_resp_name);
+    print_names("Told", chi_told_name);
+    print_names("IdForm", chi_id_form_name);
+    print_names("ObserverReason", chi_observer_reason_name);
     return 0;
 }

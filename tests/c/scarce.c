@@ -1,4 +1,4 @@
-/* Opens a slice, a node and a monitor, and copies, saves and loads a slice, while each allocation in turn is refused: the answer is
+/* Opens a slice, a node, a monitor and an observer, and copies, saves and loads a slice, while each allocation in turn is refused: the answer is
  * CHI_NoMemory, the handle is closed, or as it was before the copy, nothing leaks (valgrind looks), and the next try with
  * ample memory opens it. Then what a handle answers in each of its states, and numbers outside an enum. */
 #include "chihome.h"
@@ -52,6 +52,60 @@ static int node_allocations(void) {
         granted = -1;
         HOLDS(answer == (spent ? CHI_NoMemory : CHI_OK));
         HOLDS(chi_node_close(&node) == (spent ? CHI_Closed : CHI_OK));
+        if (!spent) return count;
+    }
+}
+
+/* With no allocation granted once it is open, an observer takes reads that are retried and sent again, for as long as there
+ * are some: none of them adds more than there is room for. */
+static void observer_without_memory(void) {
+    static const ChiObserverConfig ROOM = {.lines = 4, .ids = 2, .accounts = 2, .requesters = 2, .homes = 1};
+    static const uint8_t OPCODES[] = {CHI_Op_ReadUnique, CHI_Op_RetryAck, CHI_Op_PCrdGrant, CHI_Op_ReadUnique, CHI_Op_SnpUnique,
+        CHI_Op_SnpResp, CHI_Op_CompData, CHI_Op_CompAck};
+    ChiObserver observer = {0};
+    ChiObserverCounts counts;
+    HOLDS(chi_observer_open(&observer, &ROOM) == CHI_OK);
+    granted = 0;
+    for (int place = 0; place < 80000 && failures == 0; place++) {
+        int round = place / 8, step = place % 8;
+        uint16_t node = (uint16_t)(8 + round / 4 % 2), other = (uint16_t)(17 - node), asked = step == 4 || step == 5 ? other : node;
+        int is_up = step == 0 || step == 3 || step == 5 || step == 7;
+        ChiSeen seen = {.number = (uint64_t)place + 1, .opcode = OPCODES[step], .source = is_up ? asked : 64,
+            .target = is_up ? 64 : asked, .txn = 5, .dbid = 5, .has_dbid = 1, .address = 64 * (uint64_t)(round % 4),
+            .allow_retry = step == 0, .credit = 1, .mask = 255, .resp = step == 6 ? CHI_Resp_UC : CHI_Resp_I};
+        HOLDS(chi_observer_take(&observer, &seen) == CHI_OK);
+    }
+    HOLDS(chi_observer_counts(&observer, &counts) == CHI_OK && counts.flits == 80000 && counts.ids == 0 && counts.lines == 4);
+    HOLDS(granted == 0);
+    granted = -1;
+    HOLDS(chi_observer_close(&observer) == CHI_OK);
+}
+
+/* Opens an observer, gives it a flit and a fault, and asks for its text: with one allocation refused, the opening or the text
+ * is answered so; a flit takes no memory. */
+static int observer_allocations(void) {
+    static const ChiObserverConfig ROOM = {.lines = 4, .ids = 4, .accounts = 4, .requesters = 2, .homes = 1};
+    static const ChiSeen REQUEST = {.opcode = CHI_Op_ReadShared, .number = 1, .source = 8, .target = 64, .allow_retry = 1};
+    for (int count = 0;; count++) {
+        ChiObserver observer = {0};
+        ChiSeen wrong = REQUEST;
+        uint8_t bytes[512];
+        size_t length = 0;
+        wrong.number = 2;
+        granted = count;
+        uint8_t opened = chi_observer_open(&observer, &ROOM);
+        int left = granted;
+        if (opened == CHI_OK) {
+            HOLDS(chi_observer_take(&observer, &REQUEST) == CHI_OK && chi_observer_take(&observer, &wrong) == CHI_Fault);
+            HOLDS(granted == left);
+        }
+        uint8_t answer = chi_observer_text(&observer, bytes, sizeof bytes, &length);
+        int spent = granted < 0;
+        granted = -1;
+        HOLDS(opened == CHI_OK || (opened == CHI_NoMemory && answer == CHI_Closed && observer.at == NULL));
+        HOLDS((opened == CHI_NoMemory || answer == CHI_NoMemory) == spent && (length > 0) == !spent);
+        if (opened == CHI_OK) HOLDS(chi_observer_text(&observer, bytes, sizeof bytes, &length) == CHI_OK && length > 0);
+        HOLDS(chi_observer_close(&observer) == (opened == CHI_OK ? CHI_OK : CHI_Closed));
         if (!spent) return count;
     }
 }
@@ -265,11 +319,14 @@ int main(void) {
     int slice = slice_allocations();
     int node = node_allocations();
     int monitor = monitor_allocations();
-    HOLDS(slice > 0 && node > slice && monitor > 0 && copy_allocations() == slice);
+    int observer = observer_allocations();
+    observer_without_memory();
+    HOLDS(slice > 0 && node > slice && monitor > 0 && observer > 0 && copy_allocations() == slice);
     slice_answers();
     copy_answers();
     saved_allocations();
     node_answers();
-    printf("%d allocations of a slice, %d of a node and %d of a monitor, each refused in turn\n", slice, node, monitor);
+    printf("%d allocations of a slice, %d of a node, %d of a monitor and %d of an observer, each refused in turn\n", slice, node,
+           monitor, observer);
     return failures == 0 ? 0 : 1;
 }

@@ -19,7 +19,8 @@ TOP = Path(__file__).resolve().parents[2]
 sys.dont_write_bytecode = True
 sys.path.insert(0, str(TOP / "library"))
 import chihome  # noqa: E402
-from chihome import Answer, Channel, Kind, Message, Phase, ReleaseForm, ServingForm, State, Step  # noqa: E402
+from chihome import (Answer, Channel, IdForm, Kind, Message, ObserverReason, Opcode, Phase, ReleaseForm, Resp,  # noqa: E402
+                     Seen, ServingForm, State, Step, Told)
 
 
 def has(name):
@@ -418,6 +419,140 @@ class Nodes(unittest.TestCase):
         for call in (node.totals, node.agrees, node.audit, lambda: node.see(0), lambda: node.arrive(0, 0)):
             with self.assertRaises(chihome.Closed):
                 call()
+
+
+HOME = 0x40
+
+
+def up(opcode, node, txn, address=0x1040, **fields):
+    """A flit of a requester."""
+    return Seen(opcode, node, HOME, txn, address, **fields)
+
+
+def down(opcode, node, txn, **fields):
+    """A flit of the home, which has no address."""
+    return Seen(opcode, HOME, node, txn, **fields)
+
+
+@has("chi_observer_open")
+class Observers(unittest.TestCase):
+    def read(self, observer, node, resp, dbid, opcode=Opcode.ReadShared):
+        """A read of the line, to its CompAck."""
+        for seen in (up(opcode, node, 1), down(Opcode.CompData, node, 1, resp=resp, dbid=dbid, words=(0,) * 8),
+                     up(Opcode.CompAck, node, dbid, None)):
+            self.assertTrue(observer.take(seen))
+
+    def test_refusals(self):
+        for sizes in ({"lines": 0}, {"ids": 0}, {"accounts": 0}, {"requesters": 0}, {"homes": 0}, {"requesters": 33},
+                      {"lines": 16_777_217}, {"ids": 1 << 40}, {"accounts": -1}, {"homes": 256}, {"types": 1}, {"types": 8},
+                      {"early_grants": 2}):
+            self.assertRaises(chihome.OutOfRange, chihome.Observer, **sizes)
+        with chihome.Observer(lines=8, ids=8, accounts=4, requesters=4) as observer:
+            self.assertEqual(observer.config, chihome.ObserverConfig(8, 8, 4, 4))
+            good = up(Opcode.ReadShared, 8, 1)
+            for wrong in (good._replace(opcode=0), good._replace(opcode=41), good._replace(opcode=300), good._replace(number=0),
+                          down(Opcode.RetryAck, 8, 1, credit=16), down(Opcode.Comp, 8, 1, resp=10),
+                          down(Opcode.CompDBIDResp, 8, 1), down(Opcode.CompData, 8, 1, resp=Resp.UC),
+                          good._replace(allow_retry=False, credit=16)):
+                self.assertRaises(chihome.OutOfRange, observer.take, wrong)
+            for wrong in (good._replace(source=1 << 16), good._replace(txn=-1), good._replace(address=1 << 64),
+                          down(Opcode.CompData, 8, 1, words=(1 << 64,)), down(Opcode.CompData, 8, 1, words=(1,) * 9)):
+                self.assertRaises(ValueError, observer.take, wrong)
+            self.assertEqual((observer.counts().flits, observer.fault(), observer.ids()), (0, None, []))
+        for call in (lambda: observer.take(good), observer.fault, observer.counts, observer.ids, observer.accounts,
+                     lambda: observer.opened(0), lambda: observer.account(0)):
+            self.assertRaises(chihome.Closed, call)
+        observer.close()
+        self.assertTrue(observer.closed)
+
+    def test_room(self):
+        with chihome.Observer(lines=1, ids=8, accounts=1, requesters=1, homes=1) as observer:
+            self.read(observer, 8, Resp.UC, 0x11)
+            for wrong in (up(Opcode.ReadShared, 8, 1, 0x2000), up(Opcode.ReadShared, 9, 1),
+                          Seen(Opcode.ReadUnique, 8, 0x41, 1, 0x1040)):
+                self.assertRaises(chihome.Full, observer.take, wrong)
+            self.assertTrue(observer.take(up(Opcode.WriteEvictFull, 8, 1)))
+        with chihome.Observer(ids=1) as observer:
+            self.assertTrue(observer.take(up(Opcode.ReadShared, 8, 1)))
+            self.assertRaises(chihome.Full, observer.take, up(Opcode.ReadShared, 9, 1))
+
+    def test_forgotten_sharer(self):
+        with chihome.Observer() as observer:
+            for node in (8, 9):
+                self.read(observer, node, Resp.SC, 0x11 + node)
+            self.assertTrue(observer.take(up(Opcode.CleanUnique, 8, 3, 0x1048)))
+            for number in (20, 21):
+                wrong = down(Opcode.Comp, 8, 3, resp=Resp.UC, dbid=3, number=number)
+                self.assertRaises(chihome.Fault, observer.take, wrong)
+            fault = observer.fault()
+            self.assertEqual((fault.reason, fault.number, fault.node, fault.home), (ObserverReason.OtherCopy, 20, 8, HOME))
+            self.assertEqual((fault.line, fault.other, fault.told, fault.since), (0x1040, 9, Told.SC, 5))
+            self.assertEqual((fault.form, fault.id, fault.wanted, fault.expected), (IdForm.None_, None, None, {}))
+            self.assertEqual(fault.text, "line 20: Comp_UC to node 8 at 1040: the copy of node 9 was last told to be SC, by line "
+                             "5; allowed: RetryAck, SnpOnce, SnpClean, SnpShared, SnpNotSharedDirty, SnpCleanShared, SnpUnique, "
+                             "SnpCleanInvalid")
+            self.assertEqual((observer.counts().flits, observer.counts().requests), (7, 1))
+
+    def test_other_faults(self):
+        with chihome.Observer() as observer:
+            self.read(observer, 8, Resp.UC, 0x11, Opcode.ReadUnique)
+            for seen in (up(Opcode.ReadUnique, 9, 1), Seen(Opcode.SnpUnique, HOME, 8, 5, 0x1040),
+                         up(Opcode.SnpRespData, 8, 5, None, resp=Resp.I_PD, words=(6, 0, 0, 0, 0, 0, 0, 9))):
+                self.assertTrue(observer.take(seen))
+            wrong = down(Opcode.CompData, 9, 1, resp=Resp.UD_PD, dbid=1, words=(5, 0, 0, 0, 0, 0, 0, 9))
+            self.assertRaises(chihome.Fault, observer.take, wrong)
+            fault = observer.fault()
+            self.assertEqual((fault.reason, fault.expected, fault.since), (ObserverReason.OtherWords, {0: 6}, 6))
+        with chihome.Observer(types=4) as observer:
+            observer.take(up(Opcode.ReadUnique, 8, 1))
+            self.assertRaises(chihome.Fault, observer.take, down(Opcode.RetryAck, 8, 1, credit=1))
+            fault = observer.fault()
+            self.assertEqual((fault.reason, fault.wanted, fault.told), (ObserverReason.OtherType, 2, None))
+        with chihome.Observer() as observer:
+            self.assertRaises(chihome.Fault, observer.take, up(Opcode.CompAck, 8, 7, None))
+            fault = observer.fault()
+            self.assertEqual((fault.reason, fault.form, fault.id), (ObserverReason.NotOpen, IdForm.Buffer, 7))
+            self.assertEqual((fault.line, fault.since, fault.text), (
+                None, None, "line 1: CompAck of node 8: no completion with DBID 7 of it is open"))
+
+    def test_set_aside(self):
+        with chihome.Observer() as observer:
+            self.read(observer, 8, Resp.UC, 0x11)
+            self.assertFalse(observer.take(up(Opcode.OtherRequest, 9, 1)))
+            self.assertFalse(observer.take(up(Opcode.ReadShared, 9, 2)))
+            self.assertTrue(observer.take(up(Opcode.ReadShared, 9, 3, 0x2040)))
+            self.assertTrue(observer.take(Seen(Opcode.Load, 9, address=0x1048, words=(5,))))
+            counts = observer.counts()
+            self.assertEqual((counts.aside, counts.first_aside), (1, chihome.Aside(0x1040, 4)))
+            self.assertEqual((counts.flits, counts.lines, counts.accesses, counts.is_complete), (6, 2, 1, False))
+
+    def test_what_is_held(self):
+        with chihome.Observer() as observer:
+            for seen in (up(Opcode.ReadUnique, 8, 1),
+                         down(Opcode.CompData, 8, 1, resp=Resp.UC, dbid=2, words=(1, None, 3) + (None,) * 5),
+                         up(Opcode.ReadShared, 9, 4, 0x2000), down(Opcode.RetryAck, 9, 4, credit=3),
+                         Seen(Opcode.PCrdGrant, HOME, 9, credit=3), Seen(Opcode.SnpShared, HOME, 9, 6, 0x3000)):
+                self.assertTrue(observer.take(seen))
+            held = {it.form: it for it in observer.ids()}
+            self.assertEqual(held, {
+                IdForm.Request: chihome.OpenId(IdForm.Request, 1, 8, HOME, 0x1040, Opcode.ReadUnique, 1, True,
+                                               frozenset({1, 3, 4, 5, 6, 7}), None),
+                IdForm.Buffer: chihome.OpenId(IdForm.Buffer, 2, 8, HOME, 0x1040, Opcode.ReadUnique, 2, True, frozenset(), None),
+                IdForm.Retried: chihome.OpenId(IdForm.Retried, 0, 9, HOME, 0x2000, Opcode.ReadShared, 4, True, frozenset(), 3),
+                IdForm.Snoop: chihome.OpenId(IdForm.Snoop, 6, 9, HOME, 0x3000, Opcode.SnpShared, 6, True, frozenset(), None)})
+            self.assertEqual(observer.accounts(), [chihome.Account(9, HOME, 3, 1, 1, 0, 0, 0, 1)])
+            self.assertRaises(chihome.OutOfRange, observer.opened, 4)
+            self.assertRaises(chihome.OutOfRange, observer.account, 1)
+            counts = observer.counts()
+            self.assertEqual((counts.requests, counts.completions, counts.snoops, counts.retried, counts.unsettled), (1,) * 5)
+            self.assertEqual((counts.requesters, counts.homes, counts.ids, counts.accounts), (2, 1, 4, 1))
+
+    def test_names(self):
+        calls = chihome._library()
+        for name, kind in (("opcode", Opcode), ("resp", Resp), ("told", Told), ("id_form", IdForm),
+                           ("observer_reason", ObserverReason)):
+            for it in kind:
+                self.assertEqual(getattr(calls, f"chi_{name}_name")(it).decode(), it.name.rstrip("_"))
 
 
 class Loading(unittest.TestCase):

@@ -25,14 +25,21 @@ NUMBERS = {"uint8_t": ctypes.c_uint8, "uint16_t": ctypes.c_uint16, "uint32_t": c
            "uint64_t": ctypes.c_uint64, "size_t": ctypes.c_size_t, "void *": ctypes.c_void_p}
 
 
-def members(text):
-    """The names and numbers between the braces of an enum."""
-    return {name: int(number) for name, number in re.findall(r"CHI_(\w+) = (\d+)", text)}
+# What stands before the names of some enums in C, where all enums' names are in one place.
+PREFIXES = {"Opcode": "Op_", "Resp": "Resp_", "Told": "Told_", "IdForm": "Id_", "ObserverReason": "Fault_"}
+# What is no refusal: the flit is taken.
+TAKEN = {chihome.Answer.OK, chihome.Answer.SetAside}
+
+
+def members(text, prefix=""):
+    """The names and numbers between the braces of an enum; None is no name in Python."""
+    each = re.findall(rf"CHI_{prefix}(\w+) = (\d+)", text)
+    return {"None_" if name == "None" else name: int(number) for name, number in each}
 
 
 def wrong_enums():
     """The enums of the header that the module has otherwise, and those that only it has."""
-    known = {name: members(body) for name, body in re.findall(r"enum Chi(\w+) \{(.*?)\}", CODE, re.S)}
+    known = {name: members(body, PREFIXES.get(name, "")) for name, body in re.findall(r"enum Chi(\w+) \{(.*?)\}", CODE, re.S)}
     ours = {name: {it.name: it.value for it in kind} for name, kind in inspect.getmembers(chihome, inspect.isclass)
             if issubclass(kind, chihome.enum.IntEnum)}
     wrong = [f"{it}: {known.get(it)}, and here {ours.get(it)}" for it in sorted({*known, *ours})
@@ -44,7 +51,7 @@ def wrong_enums():
 def refusals():
     """What is wrong about the exceptions: each refusal has one, of its number and name."""
     ours = {it.name: int(it.number) for it in chihome.Refused.__subclasses__()}
-    wanted = {it.name: it.value for it in chihome.Answer if it != chihome.Answer.OK}
+    wanted = {it.name: it.value for it in chihome.Answer if it not in TAKEN}
     names = [it for it in chihome.Refused.__subclasses__() if it.name != it.__name__]
     return [f"the refusals are {wanted}, and here {ours}"] * (ours != wanted) + [f"{it}" for it in names]
 

@@ -1,0 +1,92 @@
+/* Observes a trace by the library's calls, and prints what `chihome observe` prints of it, with its status.
+ *
+ *     observe FILE [--types two|four|any] [--early-grants] [--complete]
+ */
+#include "chihome.h"
+#include "trace.h"
+
+#include <inttypes.h>
+
+static ChiObserver observer;
+
+/* What an open id waits for. */
+static const char *lack_of(const ChiOpenId *id) {
+    if (id->lacks != 0) return "without all words of its data";
+    if (id->form == CHI_Id_Request) return "without its completion";
+    if (id->form == CHI_Id_Buffer) return "without CompAck or write data";
+    return id->form == CHI_Id_Snoop ? "without its answer" : "not sent again or cancelled";
+}
+
+static void print_open(const ChiObserverCounts *counts) {
+    for (uint32_t place = 0; place < counts->ids; place++) {
+        ChiOpenId id;
+        if (chi_observer_opened(&observer, place, &id) != CHI_OK || !id.open) continue;
+        const char *name = id.opcode == CHI_Op_None ? "another flit" : chi_opcode_name(id.opcode);
+        printf("open: %s %s node %x at %" PRIx64 ", since line %" PRIu64 " %s\n", name,
+               strncmp(name, "Snp", 3) == 0 ? "to" : "of", id.node, id.line, id.since, lack_of(&id));
+    }
+    for (uint32_t place = 0; place < counts->accounts; place++) {
+        ChiAccount account;
+        if (chi_observer_account(&observer, place, &account) != CHI_OK || (account.owed | account.unused) == 0) continue;
+        printf("open: credits of type %x of node %x: %" PRIu64 " owed, %" PRIu64 " unused\n", account.credit, account.node,
+               account.owed, account.unused);
+    }
+}
+
+static int print_end(int complete) {
+    ChiObserverCounts counts;
+    if (chi_observer_counts(&observer, &counts) != CHI_OK) return 1;
+    if ((counts.flits | counts.accesses) == 0) {
+        printf("no flit, load or store is in the trace\n");
+        return 8;
+    }
+    printf("accepted %" PRIu64 " flits on %" PRIu64 " lines\n", counts.flits, counts.lines);
+    if (counts.accesses > 0) printf("not judged: %" PRIu64 " loads and stores\n", counts.accesses);
+    if (counts.aside > 0)
+        printf("set aside: %" PRIu64 " lines, the first at %" PRIx64 " by line %" PRIu64 "\n", counts.aside, counts.aside_line,
+               counts.aside_number);
+    print_open(&counts);
+    uint32_t open = counts.requests | counts.completions | counts.snoops | counts.retried | counts.unsettled;
+    return complete && open != 0 ? 7 : 0;
+}
+
+static int print_fault(uint64_t number) {
+    static uint8_t bytes[65536];
+    ChiObserverFault fault;
+    size_t length;
+    if (chi_observer_fault(&observer, &fault) != CHI_OK || fault.number != number) return 1;
+    if (chi_observer_text(&observer, bytes, sizeof bytes, &length) != CHI_OK) return 1;
+    printf("%.*s\n", (int)length, (const char *)bytes);
+    return 6;
+}
+
+/* Gives the observer each flit of the file, up to the first fault. */
+static int observe(FILE *file, int complete) {
+    static char line[LINE];
+    ChiSeen seen;
+    for (uint64_t number = 1; fgets(line, sizeof line, file) != NULL; number++) {
+        if (!read_flit(line, number, &seen)) continue;
+        uint8_t answer = chi_observer_take(&observer, &seen);
+        if (answer == CHI_Fault) return print_fault(number);
+        if (answer == CHI_OK || answer == CHI_SetAside) continue;
+        printf("line %" PRIu64 ": %s\n", number, chi_refusal_name(answer));
+        return 1;
+    }
+    return print_end(complete);
+}
+
+int main(int count, char **words) {
+    ChiObserverConfig config = {.lines = 4096, .ids = 4096, .accounts = 1024, .requesters = 32, .homes = 255};
+    int complete = 0;
+    for (int word = 2; word < count; word++) {
+        complete |= strcmp(words[word], "--complete") == 0;
+        config.early_grants |= strcmp(words[word], "--early-grants") == 0;
+        if (strcmp(words[word], "two") == 0) config.types = 2;
+        if (strcmp(words[word], "four") == 0) config.types = 4;
+    }
+    FILE *file = count > 1 ? fopen(words[1], "r") : NULL;
+    if (file == NULL || chi_observer_open(&observer, &config) != CHI_OK) return 2;
+    int status = observe(file, complete);
+    fclose(file);
+    return chi_observer_close(&observer) == CHI_OK ? status : 2;
+}

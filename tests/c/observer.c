@@ -1,0 +1,266 @@
+/* What the calls of an observer answer: opened and closed, with no room, with numbers that are none of an enum's, to a first
+ * fault and behind it, and to lines that are set aside; and what they tell. */
+#include "chihome.h"
+#include "trace.h"
+
+static int failures;
+
+#define HOLDS(it) ((it) ? (void)0 : (void)(failures++, printf("%s:%d: %s\n", __FILE__, __LINE__, #it)))
+
+static const ChiObserverConfig SIZES = {.lines = 8, .ids = 8, .accounts = 4, .requesters = 4, .homes = 2};
+static uint64_t number;
+
+/* Gives the observer a line of a trace, with the next number. */
+static uint8_t take(ChiObserver *observer, const char *line) {
+    ChiSeen seen;
+    HOLDS(read_flit(line, ++number, &seen));
+    return chi_observer_take(observer, &seen);
+}
+
+/* Gives it lines up to an empty one; the answer to the last. */
+static uint8_t take_all(ChiObserver *observer, const char *const *lines) {
+    uint8_t answer = CHI_OK;
+    for (number = 0; *lines != NULL; lines++) {
+        HOLDS(answer == CHI_OK || answer == CHI_SetAside);
+        answer = take(observer, *lines);
+    }
+    return answer;
+}
+
+static void opened_for(ChiObserver *observer, ChiObserverConfig config) {
+    HOLDS(chi_observer_open(observer, &config) == CHI_OK && observer->at != NULL);
+    number = 0;
+}
+
+static void closed(void) {
+    ChiObserver observer = {0};
+    ChiObserverFault fault;
+    ChiObserverCounts counts;
+    ChiOpenId id;
+    ChiAccount account;
+    ChiSeen seen = {.opcode = CHI_Op_ReadShared, .number = 1, .allow_retry = 1};
+    uint8_t bytes[4];
+    size_t length = 9;
+    memset(&fault, 255, sizeof fault);
+    memset(&counts, 255, sizeof counts);
+    memset(&id, 255, sizeof id);
+    memset(&account, 255, sizeof account);
+    HOLDS(chi_observer_take(&observer, &seen) == CHI_Closed && chi_observer_fault(&observer, &fault) == CHI_Closed);
+    HOLDS(chi_observer_counts(&observer, &counts) == CHI_Closed && chi_observer_opened(&observer, 0, &id) == CHI_Closed);
+    HOLDS(chi_observer_account(&observer, 0, &account) == CHI_Closed && chi_observer_close(&observer) == CHI_Closed);
+    HOLDS(chi_observer_text(&observer, bytes, sizeof bytes, &length) == CHI_Closed && length == 0);
+    HOLDS(fault.reason == 0 && fault.number == 0 && counts.flits == 0 && counts.homes == 0 && id.form == 0 && id.since == 0);
+    HOLDS(account.promised == 0 && account.node == 0 && observer.at == NULL);
+}
+
+static void openings(void) {
+    ChiObserverConfig wrong[14];
+    ChiObserver observer = {0};
+    for (size_t place = 0; place < 14; place++) wrong[place] = SIZES;
+    wrong[0].lines = wrong[1].ids = wrong[2].accounts = 0;
+    wrong[3].lines = wrong[4].ids = wrong[5].accounts = 16777217;
+    wrong[6].requesters = wrong[7].homes = 0;
+    wrong[8].requesters = 33;
+    wrong[9].types = 1;
+    wrong[10].types = 3;
+    wrong[11].types = 5;
+    wrong[12].early_grants = 2;
+    wrong[13].lines = UINT32_MAX;
+    for (size_t place = 0; place < 14; place++)
+        HOLDS(chi_observer_open(&observer, &wrong[place]) == CHI_OutOfRange && observer.at == NULL);
+    opened_for(&observer, SIZES);
+    void *at = observer.at;
+    HOLDS(chi_observer_open(&observer, &SIZES) == CHI_AlreadyOpen && observer.at == at);
+    HOLDS(chi_observer_close(&observer) == CHI_OK && observer.at == NULL);
+    opened_for(&observer, (ChiObserverConfig){.lines = 1, .ids = 1, .accounts = 1, .requesters = 1, .homes = 1, .types = 4});
+    HOLDS(chi_observer_close(&observer) == CHI_OK);
+}
+
+/* Numbers of no enum, number 0 and what lacks are refused, and nothing has changed; what an opcode hasn't may be anything. */
+static void numbers(void) {
+    ChiObserver observer = {0};
+    ChiObserverCounts counts;
+    ChiSeen good = {.number = 1, .source = 8, .target = 0x40, .txn = 1, .address = 0x1040, .allow_retry = 1, .resp = 255,
+        .credit = 255, .mask = 0, .dbid = 9, .opcode = CHI_Op_ReadShared};
+    ChiSeen wrong[10];
+    for (size_t place = 0; place < 10; place++) wrong[place] = good;
+    wrong[0].opcode = CHI_Op_None;
+    wrong[1].opcode = CHI_Op_OtherReply + 1;
+    wrong[2].number = 0;
+    wrong[3].allow_retry = 0; /* with a credit type of 255 */
+    wrong[4].opcode = CHI_Op_RetryAck;
+    wrong[5].opcode = CHI_Op_Comp; /* with a RESP of 255 */
+    wrong[6].opcode = CHI_Op_SnpResp;
+    wrong[6].resp = CHI_Resp_SD_PD + 1;
+    wrong[7].opcode = CHI_Op_CompDBIDResp;
+    wrong[8].opcode = CHI_Op_CompData;
+    wrong[8].resp = CHI_Resp_UC; /* with no word */
+    wrong[9].opcode = CHI_Op_PCrdGrant;
+    wrong[9].credit = 16;
+    opened_for(&observer, SIZES);
+    for (size_t place = 0; place < 10; place++) HOLDS(chi_observer_take(&observer, &wrong[place]) == CHI_OutOfRange);
+    HOLDS(chi_observer_counts(&observer, &counts) == CHI_OK && counts.flits == 0 && counts.ids == 0 && counts.homes == 0);
+    HOLDS(chi_observer_take(&observer, &good) == CHI_OK && chi_observer_counts(&observer, &counts) == CHI_OK);
+    HOLDS(counts.flits == 1 && counts.lines == 1 && counts.requests == 1 && counts.requesters == 1 && counts.homes == 1);
+    HOLDS(chi_observer_close(&observer) == CHI_OK);
+}
+
+/* With room for one of a thing, what needs a second one is answered so, and the observer goes on. */
+static void room(void) {
+    static const char *const READ[] = {"REQ 8 40 1 ReadUnique 1040 - - 1 - -", "DAT 40 8 1 CompData - UC 11 - - 0,0,0,0,0,0,0,0",
+        "RSP 8 40 11 CompAck - - - - - -", NULL};
+    static const char *const RETRIED[] = {"REQ 8 40 1 ReadUnique 1040 - - 1 - -", "RSP 40 8 1 RetryAck - - - - 0 -",
+        "REQ 8 40 1 ReadUnique 1080 - - 1 - -", NULL};
+    ChiObserverConfig small = SIZES;
+    ChiObserver observer = {0};
+    small.lines = small.requesters = small.homes = 1;
+    opened_for(&observer, small);
+    HOLDS(take_all(&observer, READ) == CHI_OK && take(&observer, "REQ 8 40 1 ReadUnique 1080 - - 1 - -") == CHI_Full);
+    HOLDS(take(&observer, "REQ 9 40 1 ReadUnique 1040 - - 1 - -") == CHI_Full);
+    HOLDS(take(&observer, "REQ 8 41 1 WriteBackFull 1040 - - 1 - -") == CHI_Full);
+    HOLDS(take(&observer, "REQ 8 40 1 WriteBackFull 1040 - - 1 - -") == CHI_OK && chi_observer_close(&observer) == CHI_OK);
+    small = SIZES;
+    small.ids = 1;
+    opened_for(&observer, small);
+    HOLDS(take_all(&observer, READ) == CHI_OK && take(&observer, "REQ 8 40 1 ReadUnique 1080 - - 1 - -") == CHI_OK);
+    HOLDS(take(&observer, "REQ 8 40 2 ReadUnique 10c0 - - 1 - -") == CHI_Full);
+    HOLDS(take(&observer, "DAT 40 8 1 CompData - UC 11 - - 0,0,0,0,0,0,0,0") == CHI_OK);
+    /* (so too where its line wouldn't take it, but not where ids don't allow it) */
+    HOLDS(take(&observer, "SNP 40 8 5 SnpUnique 1080 - - - - -") == CHI_Full);
+    HOLDS(take(&observer, "RSP 8 40 12 CompAck - - - - - -") == CHI_Fault && chi_observer_close(&observer) == CHI_OK);
+    small = SIZES;
+    small.accounts = 1;
+    opened_for(&observer, small);
+    HOLDS(take_all(&observer, RETRIED) == CHI_OK && take(&observer, "RSP 40 8 1 RetryAck - - - - 1 -") == CHI_Full);
+    HOLDS(take(&observer, "RSP 40 8 1 RetryAck - - - - 0 -") == CHI_OK && chi_observer_close(&observer) == CHI_OK);
+}
+
+/* What the observer holds behind a beat of data, a retry, a grant and a snoop. */
+static void told(void) {
+    static const char *const LINES[] = {"REQ 8 40 1 ReadUnique 1040 - - 1 - -", "DAT 40 8 1 CompData - UC 11 - - 5,0,0,0,x,x,x,x",
+        "REQ 9 40 2 ReadShared 1080 - - 1 - -", "RSP 40 9 2 RetryAck - - - - 3 -", "RSP 40 9 - PCrdGrant - - - - 3 -",
+        "REQ a 40 1 ReadShared 10c0 - - 1 - -", "SNP 40 9 7 SnpShared 10ff - - - - -", NULL};
+    ChiObserver observer = {0};
+    ChiObserverCounts counts;
+    ChiObserverFault fault;
+    ChiAccount account;
+    ChiOpenId id, ids[5] = {0};
+    opened_for(&observer, SIZES);
+    HOLDS(take_all(&observer, LINES) == CHI_OK && chi_observer_counts(&observer, &counts) == CHI_OK);
+    HOLDS(counts.flits == 7 && counts.accesses == 0 && counts.lines == 3 && counts.aside == 0 && counts.aside_number == 0);
+    HOLDS(counts.ids == 5 && counts.requests == 2 && counts.completions == 1 && counts.snoops == 1 && counts.retried == 1);
+    HOLDS(counts.accounts == 1 && counts.unsettled == 1 && counts.requesters == 3 && counts.homes == 1);
+    for (uint32_t place = 0; place < 5; place++) {
+        HOLDS(chi_observer_opened(&observer, place, &id) == CHI_OK && id.open == 1 && id.home == 0x40);
+        ids[id.node == 10 ? 0 : id.form % 5] = id;
+    }
+    HOLDS(ids[0].form == CHI_Id_Request && ids[0].opcode == CHI_Op_ReadShared && ids[0].line == 0x10c0 && ids[0].since == 6);
+    HOLDS(ids[1].form == CHI_Id_Request && ids[1].opcode == CHI_Op_ReadUnique && ids[1].node == 8 && ids[1].lacks == 0xf0);
+    HOLDS(ids[2].form == CHI_Id_Buffer && ids[2].id == 0x11 && ids[2].since == 2 && ids[2].waits == 255 && ids[2].lacks == 0);
+    HOLDS(ids[3].form == CHI_Id_Snoop && ids[3].opcode == CHI_Op_SnpShared && ids[3].id == 7 && ids[3].node == 9);
+    HOLDS(ids[3].line == 0x10c0 && ids[4].form == CHI_Id_Retried && ids[4].id == 0 && ids[4].waits == 3);
+    HOLDS(ids[4].line == 0x1080 && ids[4].since == 4);
+    HOLDS(chi_observer_opened(&observer, 5, &id) == CHI_OutOfRange && id.form == 0);
+    HOLDS(chi_observer_account(&observer, 0, &account) == CHI_OK && account.node == 9 && account.home == 0x40);
+    HOLDS(account.credit == 3 && account.promised == 1 && account.granted == 1 && account.owed == 0 && account.unused == 1);
+    HOLDS(account.spent == 0 && account.returned == 0 && chi_observer_account(&observer, 1, &account) == CHI_OutOfRange);
+    HOLDS(chi_observer_fault(&observer, &fault) == CHI_OK && fault.reason == CHI_Fault_None && fault.number == 0);
+    HOLDS(fault.told == 255 && fault.wanted == 255 && chi_observer_close(&observer) == CHI_OK);
+}
+
+/* A sharer that is forgotten: the first fault stays, and each flit behind it is answered so. */
+static void forgotten(void) {
+    static const char *const LINES[] = {"REQ 8 40 1 ReadShared 1040 - - 1 - -", "DAT 40 8 1 CompData - SC 11 - - 0,0,0,0,0,0,0,0",
+        "RSP 8 40 11 CompAck - - - - - -", "REQ 9 40 2 ReadShared 1040 - - 1 - -",
+        "DAT 40 9 2 CompData - SC 12 - - 0,0,0,0,0,0,0,0", "RSP 9 40 12 CompAck - - - - - -",
+        "REQ 8 40 3 CleanUnique 1048 - - 1 - -", "RSP 40 8 3 Comp - UC 13 - - -", NULL};
+    static const char TEXT[] = "line 8: Comp_UC to node 8 at 1040: the copy of node 9 was last told to be SC, by line 5; allowed: "
+        "RetryAck, SnpOnce, SnpClean, SnpShared, SnpNotSharedDirty, SnpCleanShared, SnpUnique, SnpCleanInvalid";
+    ChiObserver observer = {0};
+    ChiObserverFault fault, later;
+    ChiObserverCounts counts;
+    uint8_t bytes[1024];
+    size_t length;
+    opened_for(&observer, SIZES);
+    HOLDS(chi_observer_text(&observer, bytes, 0, &length) == CHI_OK && length == 0);
+    HOLDS(take_all(&observer, LINES) == CHI_Fault && chi_observer_fault(&observer, &fault) == CHI_OK);
+    HOLDS(fault.reason == CHI_Fault_OtherCopy && fault.number == 8 && fault.node == 8 && fault.home == 0x40);
+    HOLDS(fault.has_line == 1 && fault.line == 0x1040 && fault.has_other == 1 && fault.other == 9);
+    HOLDS(fault.told == CHI_Told_SC && fault.since == 5 && fault.differs == 0 && fault.wanted == 255);
+    HOLDS(take(&observer, "REQ 8 40 1 ReadShared 1080 - - 1 - -") == CHI_Fault && take(&observer, LINES[0]) == CHI_Fault);
+    HOLDS(chi_observer_fault(&observer, &later) == CHI_OK && later.number == 8 && later.reason == fault.reason);
+    HOLDS(chi_observer_counts(&observer, &counts) == CHI_OK && counts.flits == 7 && counts.requests == 1);
+    memset(bytes, 165, sizeof bytes);
+    HOLDS(chi_observer_text(&observer, bytes, sizeof TEXT - 2, &length) == CHI_JournalFull && length == sizeof TEXT - 1);
+    HOLDS(bytes[0] == 165 && chi_observer_text(&observer, bytes, length, &length) == CHI_OK && length == sizeof TEXT - 1);
+    HOLDS(memcmp(bytes, TEXT, length) == 0 && bytes[length] == 165 && chi_observer_close(&observer) == CHI_OK);
+}
+
+/* A fault of one flit more than some that are taken. */
+static ChiObserverFault fault_of(const char *const *lines, uint8_t types) {
+    ChiObserver observer = {0};
+    ChiObserverFault fault;
+    ChiObserverConfig config = SIZES;
+    config.types = types;
+    opened_for(&observer, config);
+    HOLDS(take_all(&observer, lines) == CHI_Fault && chi_observer_fault(&observer, &fault) == CHI_OK);
+    HOLDS(fault.number == number && chi_observer_close(&observer) == CHI_OK);
+    return fault;
+}
+
+static void faults(void) {
+    static const char *const WORDS[] = {"REQ 8 40 1 ReadUnique 1040 - - 1 - -", "DAT 40 8 1 CompData - UC 11 - - 5,0,0,0,0,0,0,7",
+        "RSP 8 40 11 CompAck - - - - - -", "REQ 9 40 1 ReadUnique 1040 - - 1 - -", "SNP 40 8 5 SnpUnique 1040 - - - - -",
+        "DAT 8 40 5 SnpRespData - I_PD - - - 6,0,0,0,0,0,0,9", "DAT 40 9 1 CompData - UD_PD 11 - - 6,0,0,0,0,0,0,7", NULL};
+    static const char *const IN_USE[] = {"REQ 8 40 1 ReadUnique 1040 - - 1 - -", "REQ 8 40 1 ReadUnique 1080 - - 1 - -", NULL};
+    static const char *const NOT_OPEN[] = {"REQ 8 40 1 ReadUnique 1040 - - 1 - -", "RSP 8 40 2 CompAck - - - - - -", NULL};
+    static const char *const TYPE[] = {"REQ 8 40 1 ReadUnique 1040 - - 1 - -", "RSP 40 8 1 RetryAck - - - - 1 -", NULL};
+    static const char *const FORM[] = {"REQ 8 40 1 ReadUnique 1040 - - 1 - -", "SNP 40 9 5 SnpUnique 1040 - - - - -",
+        "RSP 9 40 5 SnpResp - SD - - - -", NULL};
+    static const char *const HOME[] = {"REQ 8 40 1 ReadUnique 1040 - - 1 - -", "SNP 41 9 5 SnpUnique 1040 - - - - -", NULL};
+    ChiObserverFault fault = fault_of(WORDS, 0);
+    HOLDS(fault.reason == CHI_Fault_OtherWords && fault.differs == 0x80 && fault.expected[7] == 9 && fault.expected[0] == 6);
+    HOLDS(fault.since == 6 && fault.node == 9);
+    fault = fault_of(IN_USE, 0);
+    HOLDS(fault.reason == CHI_Fault_InUse && fault.form == CHI_Id_Request && fault.id == 1 && fault.since == 1);
+    HOLDS(fault.told == 255 && fault.has_other == 0);
+    fault = fault_of(NOT_OPEN, 0);
+    HOLDS(fault.reason == CHI_Fault_NotOpen && fault.form == CHI_Id_Buffer && fault.id == 2 && fault.has_line == 0);
+    fault = fault_of(TYPE, 4);
+    HOLDS(fault.reason == CHI_Fault_OtherType && fault.wanted == 2 && fault.node == 8);
+    fault = fault_of(FORM, 0);
+    HOLDS(fault.reason == CHI_Fault_Form && fault.node == 9 && fault.home == 0x40);
+    fault = fault_of(HOME, 0);
+    HOLDS(fault.reason == CHI_Fault_OtherHome && fault.has_other == 1 && fault.other == 0x40 && fault.home == 0x41);
+    HOLDS(fault.since == 1 && fault.line == 0x1040);
+}
+
+/* A line with a flit that isn't judged is set aside, and other lines go on to be judged. */
+static void aside(void) {
+    static const char *const LINES[] = {"REQ 8 40 1 ReadUnique 1040 - - 1 - -", "DAT 40 8 1 CompData - UC 11 - - 0,0,0,0,0,0,0,0",
+        "RSP 8 40 11 CompAck - - - - - -", "REQ 9 40 1 AtomicLoad 1040 - - 1 - -", NULL};
+    ChiObserver observer = {0};
+    ChiObserverCounts counts;
+    opened_for(&observer, SIZES);
+    HOLDS(take_all(&observer, LINES) == CHI_SetAside && chi_observer_counts(&observer, &counts) == CHI_OK);
+    HOLDS(counts.aside == 1 && counts.aside_number == 4 && counts.aside_line == 0x1040 && counts.requests == 0);
+    HOLDS(take(&observer, "REQ 9 40 2 ReadUnique 1040 - - 1 - -") == CHI_SetAside);
+    HOLDS(take(&observer, "DAT 40 9 2 CompData - UC 11 - - 0,0,0,0,0,0,0,0") == CHI_SetAside);
+    HOLDS(take(&observer, "CPU 9 - - Load 1040 - - - - 5") == CHI_OK);
+    HOLDS(take(&observer, "REQ 8 40 2 ReadUnique 1080 - - 1 - -") == CHI_OK);
+    HOLDS(chi_observer_counts(&observer, &counts) == CHI_OK && counts.aside == 1 && counts.lines == 2 && counts.accesses == 1);
+    HOLDS(take(&observer, "DAT 40 8 2 CompData - SC 12 - - 0,0,0,0,0,0,0,0") == CHI_Fault);
+    HOLDS(chi_observer_close(&observer) == CHI_OK);
+}
+
+int main(void) {
+    closed();
+    openings();
+    numbers();
+    room();
+    told();
+    forgotten();
+    faults();
+    aside();
+    return failures == 0 ? 0 : 1;
+}

@@ -1,0 +1,143 @@
+/* What the handle of an observer in chihome.hpp answers: opened, moved and closed, with no room, to a fault and to a line that
+ * is set aside, and what it tells. With traces as arguments it observes each instead, and prints the first line that `chihome
+ * observe` prints of it. The status is 0 where all holds. */
+#include "chihome.hpp"
+
+#include "../c/trace.h"
+
+#include <cinttypes>
+#include <cstring>
+#include <fstream>
+#include <string>
+#include <type_traits>
+
+using namespace chihome;
+
+static int failures;
+
+#define HOLDS(it) ((it) ? (void)0 : (void)(failures++, std::printf("%s:%d: %s\n", __FILE__, __LINE__, #it)))
+
+static_assert(!std::is_copy_constructible_v<Observer> && !std::is_copy_assignable_v<Observer>);
+static_assert(std::is_nothrow_move_constructible_v<Observer> && std::is_nothrow_move_assignable_v<Observer>);
+
+static ObserverConfig sizes(std::uint32_t lines) {
+    ObserverConfig config;
+    config.lines = lines;
+    config.ids = 8;
+    config.accounts = 4;
+    return config;
+}
+
+/* The flit of a line of a trace; without a number of its own. */
+static Seen seen(const std::string &line) {
+    ChiSeen from;
+    HOLDS(read_flit(line.c_str(), 1, &from));
+    Seen to;
+    to.opcode = Opcode(from.opcode);
+    to.source = from.source;
+    to.target = from.target;
+    to.txn = from.txn;
+    if (from.has_address != 0) to.address = from.address;
+    to.resp = Resp(from.resp);
+    if (from.has_dbid != 0) to.dbid = from.dbid;
+    to.allow_retry = from.allow_retry != 0;
+    to.credit = from.credit;
+    to.mask = from.mask;
+    for (std::size_t word = 0; word < 8; word++) to.words[word] = from.words[word];
+    return to;
+}
+
+static Answer take(Observer &observer, const std::string &line) { return observer.take(seen(line)); }
+
+static void moves() {
+    Observer closed;
+    HOLDS(!closed.is_open() && closed.close() == Answer::Closed && closed.take(Seen()) == Answer::Closed);
+    HOLDS(closed.fault().answer() == Answer::Closed && closed.counts().answer() == Answer::Closed && closed.text().empty());
+    HOLDS(closed.opened(0).answer() == Answer::Closed && closed.account(0).answer() == Answer::Closed);
+    HOLDS(Observer::open(sizes(0)).answer() == Answer::OutOfRange && Observer::open(sizes(8)));
+    ObserverConfig wrong = sizes(8);
+    wrong.types = 3;
+    HOLDS(Observer::open(wrong).answer() == Answer::OutOfRange);
+    Observer observer = *Observer::open(sizes(8));
+    HOLDS(take(observer, "REQ 8 40 1 ReadShared 1040 - - 1 - -") == Answer::OK);
+    closed = std::move(observer);
+    HOLDS(closed.is_open() && !observer.is_open() && closed.counts()->requests == 1);
+    HOLDS(take(closed, "RSP 40 8 9 RetryAck - - - - 0 -") == Answer::Fault && (*closed.fault())->number == 2);
+    Observer &same = closed;
+    closed = std::move(same);
+    HOLDS(closed.is_open() && closed.close() == Answer::OK && closed.close() == Answer::Closed);
+}
+
+static void answers() {
+    Observer observer = *Observer::open(sizes(2));
+    Seen wrong = seen("REQ 8 40 1 ReadShared 1040 - - 1 - -");
+    wrong.number = 0;
+    HOLDS(observer.take(wrong) == Answer::OutOfRange && observer.take(Seen()) == Answer::OutOfRange);
+    wrong.number = 7;
+    HOLDS(observer.take(wrong) == Answer::OK && observer.opened(0)->since == 7 && !*observer.fault());
+    HOLDS(take(observer, "DAT 40 8 1 CompData - SC 11 - - 1,2,3,4,x,x,x,x") == Answer::OK && observer.opened(0)->lacks == 0xf0);
+    HOLDS(take(observer, "DAT 40 8 1 CompData - SC 11 - - x,x,x,x,5,6,7,8") == Answer::OK && observer.opened(0)->since == 8);
+    HOLDS(observer.opened(0)->form == IdForm::Buffer && observer.opened(0)->id == 0x11 && observer.opened(0)->open);
+    HOLDS(observer.opened(1).answer() == Answer::OutOfRange && !observer.counts()->is_complete());
+    HOLDS(take(observer, "RSP 8 40 11 CompAck - - - - - -") == Answer::OK && observer.counts()->is_complete());
+    HOLDS(take(observer, "REQ 9 40 1 AtomicStore 2040 - - 1 - -") == Answer::SetAside);
+    HOLDS(observer.counts()->aside == 1 && observer.counts()->first_aside->line == 0x2040);
+    HOLDS(observer.counts()->first_aside->number == 11 && observer.counts()->lines == 2);
+    HOLDS(take(observer, "REQ 9 40 2 ReadShared 3040 - - 1 - -") == Answer::Full && !*observer.fault());
+    HOLDS(take(observer, "REQ 9 40 2 ReadShared 1040 - - 1 - -") == Answer::OK);
+    HOLDS(take(observer, "RSP 40 9 2 RetryAck - - - - 2 -") == Answer::OK && observer.opened(1)->waits == 2);
+    const Account account = *observer.account(0);
+    HOLDS(account.node == 9 && account.home == 0x40 && account.credit == 2 && account.promised == 1 && account.owed == 1);
+    HOLDS(observer.account(1).answer() == Answer::OutOfRange && observer.counts()->unsettled == 1);
+}
+
+static void faults() {
+    Observer observer = *Observer::open(sizes(8));
+    for (const char *line : {"REQ 8 40 1 ReadUnique 1040 - - 1 - -", "DAT 40 8 1 CompData - UC 11 - - 5,0,0,0,0,0,0,7",
+                             "RSP 8 40 11 CompAck - - - - - -", "REQ 9 40 1 ReadUnique 1040 - - 1 - -"})
+        HOLDS(take(observer, line) == Answer::OK);
+    HOLDS(take(observer, "DAT 40 9 1 CompData - UC 11 - - 5,0,0,0,0,0,0,7") == Answer::Fault);
+    const ObserverFault fault = **observer.fault();
+    HOLDS(fault.reason == ObserverReason::OtherCopy && fault.number == 5 && fault.node == 9 && fault.home == 0x40);
+    HOLDS(fault.line == 0x1040 && fault.other == 8 && fault.told == Told::UC && fault.since == 2);
+    HOLDS(fault.form == IdForm::None && !fault.id && !fault.wanted && !fault.expected[0]);
+    HOLDS(fault.text == observer.text() && fault.text.rfind("line 5: CompData_UC to node 9 at 1040: the copy of node 8", 0) == 0);
+    HOLDS(take(observer, "REQ 8 40 2 ReadUnique 1080 - - 1 - -") == Answer::Fault && (*observer.fault())->number == 5);
+    Observer other = *Observer::open(sizes(8));
+    HOLDS(take(other, "REQ 8 40 1 ReadUnique 1040 - - 1 - -") == Answer::OK);
+    HOLDS(take(other, "RSP 8 40 3 CompAck - - - - - -") == Answer::Fault);
+    const ObserverFault id = **other.fault();
+    HOLDS(id.reason == ObserverReason::NotOpen && id.form == IdForm::Buffer && id.id == 3 && !id.line && !id.told);
+    HOLDS(std::strcmp(name(id.reason), "NotOpen") == 0 && std::strcmp(name(id.form), "Buffer") == 0);
+    HOLDS(std::strcmp(name(Opcode::SnpOnce), "SnpOnce") == 0 && std::strcmp(name(Resp::SD_PD), "SD_PD") == 0);
+    HOLDS(std::strcmp(name(Told::UCOrUCE), "UCOrUCE") == 0 && std::strcmp(name(Answer::Full), "Full") == 0);
+}
+
+/* Prints the first line on a trace. */
+static void observe(const char *file) {
+    ObserverConfig config;
+    config.lines = config.ids = config.accounts = 4096;
+    config.homes = 255;
+    Observer observer = *Observer::open(config);
+    std::ifstream trace(file);
+    std::uint64_t number = 0;
+    for (std::string line; std::getline(trace, line);) {
+        ChiSeen from;
+        if (number++, read_flit(line.c_str(), number, &from) == 0) continue;
+        Seen flit = seen(line);
+        flit.number = number;
+        if (observer.take(flit) == Answer::Fault) return (void)std::printf("%s\n", observer.text().c_str());
+    }
+    const ObserverCounts counts = *observer.counts();
+    if ((counts.flits | counts.accesses) == 0) std::printf("no flit, load or store is in the trace\n");
+    else std::printf("accepted %" PRIu64 " flits on %" PRIu64 " lines\n", counts.flits, counts.lines);
+}
+
+int main(int count, char **words) {
+    for (int word = 1; word < count; word++) observe(words[word]);
+    if (count > 1) return failures == 0 ? 0 : 1;
+    moves();
+    answers();
+    faults();
+    return failures == 0 ? 0 : 1;
+}
