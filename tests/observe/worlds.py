@@ -5,7 +5,8 @@ what was so at some moment since an open ReadOnce or CleanShared was sent (docs/
 cache is legal where some world lets its cache send it. A flit of the home is legal where, for some value of the home's
 own copy, it is safe in every world with that value. Nothing of what the observer keeps stands here.
 
-A flit is a tuple: ("cache" or "home", the agent, what it does, and with which words).
+A flit is a tuple: ("cache" or "home", the agent, what it does, and with which words). Loads and stores are flits of a
+cache, without their words.
 """
 
 from collections import defaultdict
@@ -161,6 +162,17 @@ class Line:
         left = {"UD": "UC", "SD": "SC"}.get(copy, copy) if request.kind == "WriteCleanFull" else "I"
         return done._replace(copies=put(world.copies, agent, left), home=value) if value == world.last else None
 
+    # -- loads and stores, whatever their words: of a store a world for each
+
+    def load(self, world, agent):
+        return world if world.copies[agent] in ("SC", "SD", "UC", "UD") else None
+
+    def store(self, world, agent):
+        request = world.requests[agent]
+        if world.copies[agent] not in ("UC", "UD", "UCE") or (request and request.phase != "ack"):
+            return None
+        return [world._replace(copies=put(world.copies, agent, "UD"), last=value) for value in range(self.values)]
+
     # -- flits of the home: the worlds behind it, or None where it isn't safe
 
     def retry(self, world, agent):
@@ -239,7 +251,8 @@ class Line:
         side, agent, what, *words = flit
         act = getattr(self, what)
         if side == "cache":
-            return {it for world in self.worlds if (it := act(world, agent, *words))}
+            made = [one for world in self.worlds if (one := act(world, agent, *words))]
+            return {it for one in made for it in (one if isinstance(one, list) else [one])}
         groups = defaultdict(list)
         for world in self.worlds:
             groups[world.home].append(world)
