@@ -3,10 +3,10 @@
 ghost use Rattle.std.specs.Prelude.{◌≡◌, Ok, Some};
 ghost use Rattle.chi_program.specs.Stops.{cover_end, merge_end};
 
-use chi_coverage::{CoverShape, cover, merge};
-use chi_script::{Fault, StandardOutput};
 use crate::stops::End;
 use crate::suites::{read_files, suite_of};
+use chi_coverage::{CoverShape, cover, merge};
+use chi_script::{Fault, Output, StandardOutput};
 use std::fmt::Write;
 use std::io;
 use std::rt::Files;

@@ -5,14 +5,12 @@ ghost use Rattle.chi_program.specs.declared.faults.ArgFault.{ArgFault};
 ghost use Rattle.chi_program.specs.declared.program.Stop.TheVariants.{Arguments};
 ghost use Rattle.chi_program.specs.Stops.{draw_end};
 
-use chi_replay::check;
-use chi_script::{Fault, MOST_BYTES, StandardOutput};
-use chi_stimulus::{DrawOptions, Weights, draw, read_kinds, read_weights};
 use crate::faults::ArgFault;
 use crate::inputs::{tell, tell_unread};
-use crate::jobs::arguments;
 use crate::stops::{End, Stop};
 use crate::suites::read_file;
+use chi_script::{Fault, MOST_BYTES, StandardOutput};
+use chi_stimulus::{DrawOptions, Weights, draw, read_kinds, read_weights};
 use std::io;
 use std::rt::Files;
 

@@ -2,8 +2,8 @@
 
 ghost use Rattle.std.specs.Prelude.{Ok};
 
-use chi_script::{Fault, FileInput, hint_at, read_most};
 use crate::stops::End;
+use chi_script::{Fault, FileInput, hint_at, read_most};
 use std::rt::Files;
 
 /// The path that stands for standard input.
@@ -19,13 +19,21 @@ pub(crate) fn file_of(path: &str) -> &str {
 
 /// The bytes of the file at the path, or of standard input, so many at most; `Read` where it can't be read, `NoMemory`
 /// where memory runs out.
-pub(crate) fn bytes_of<R: Files + AllocGlobal>(rt: &R, path: &str, most: usize) -> Result<Vec<u8>, Fault> {
+pub(crate) fn bytes_of<R: Files + AllocGlobal>(
+    rt: &R,
+    path: &str,
+    most: usize,
+) -> Result<Vec<u8>, Fault> {
     let mut input = FileInput::open(rt, file_of(path))?;
     read_most(rt.alloc(), &mut input, most)
 }
 
 /// Tells a fault on standard error, of a file whose bytes these are, and what is wrong with its line.
-pub(crate) fn tell<R: AllocGlobal + Eprint>(rt: &R, bytes: &[u8], fault: Fault) -> Result<End, Fault> {
+pub(crate) fn tell<R: AllocGlobal + Eprint>(
+    rt: &R,
+    bytes: &[u8],
+    fault: Fault,
+) -> Result<End, Fault> {
     let hint = hint_at(rt.alloc(), bytes, fault)?;
     let mut text = String::new(rt.alloc());
     write!(text, "{fault}{hint}").map_err(|_| Fault::NoMemory)?;

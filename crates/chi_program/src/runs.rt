@@ -4,23 +4,26 @@ ghost use Rattle.std.specs.Prelude.{◌≡◌, Ok, Some};
 ghost use Rattle.chi_program.specs.Stops.{storm_end};
 ghost use Rattle.chi_program.specs.Charts.{part_asked};
 
-use chi_chart::{ChartPart, chart};
-use chi_flit::Line;
-use chi_replay::replay;
-use chi_script::{Fault, FileInput, MOST_CHECK_BYTES, MemoryInput, StandardOutput};
-use chi_storm::storm;
 use crate::inputs::{tell, tell_unread};
 use crate::looks::lacks_line;
 use crate::options::RowRange;
 use crate::stops::End;
 use crate::suites::read_file;
+use chi_chart::{ChartPart, chart};
+use chi_flit::Line;
+use chi_replay::replay;
+use chi_script::{Fault, FileInput, MOST_CHECK_BYTES, MemoryInput, StandardOutput};
+use chi_storm::storm;
 use std::io;
 use std::rt::{Clock, Files};
 use std::sync::Wait;
 use std::thread::Threads;
 
 /// Replays the file at the path to standard output.
-pub(crate) fn replay_file<R: Files + AllocGlobal + Print>(rt: &R, path: &str) -> Result<End, Fault> {
+pub(crate) fn replay_file<R: Files + AllocGlobal + Print>(
+    rt: &R,
+    path: &str,
+) -> Result<End, Fault> {
     let mut input = FileInput::open(rt, path)?;
     let mut output = StandardOutput::new(io::writer(rt));
     replay(rt.alloc(), &mut input, &mut output)?;

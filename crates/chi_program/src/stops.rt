@@ -5,10 +5,10 @@ ghost use Rattle.chi_program.specs.declared.faults.ArgFault.{ArgFault};
 ghost use Rattle.chi_program.specs.declared.stops.Stop.TheVariants.{Arguments, Run};
 ghost use Rattle.chi_program.specs.Stops.{end_status, stop_status, stop_text};
 
-use chi_script::Fault;
 use crate::faults::ArgFault;
-use std::fmt::Write;
+use chi_script::Fault;
 use std::fmt;
+use std::fmt::Write;
 
 /// Why the program didn't do what it was asked for. Its text is the line on standard error.
 /// Source: `docs/FORMATS.md`, "The program".

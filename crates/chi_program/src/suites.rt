@@ -5,11 +5,11 @@ ghost use Rattle.chi_program.specs.Stops.{check_end, suite_stop, wanted_end};
 ghost use Rattle.chi_program.specs.Suites.{given_in};
 ghost use Rattle.chi_replay.specs.Suites.{given_of};
 
-use chi_replay::{SuiteFile, SuiteForm, check, check_suite};
-use chi_script::{Fault, MOST_CHECK_BYTES, MemoryInput, StandardOutput};
 use crate::inputs::{bytes_of, tell, tell_unread};
 use crate::looks::wants_answer;
 use crate::stops::End;
+use chi_replay::{SuiteFile, SuiteForm, check, check_suite};
+use chi_script::{Fault, MOST_CHECK_BYTES, MemoryInput, Output, StandardOutput};
 use std::alloc::Global;
 use std::fmt::Write;
 use std::io;
@@ -91,7 +91,7 @@ fn wanted_end<R: Eprint>(rt: &R, wants: bool) -> Result<End, Fault>
 
 /// A file of which the path was given.
 #[derive(Drop)]
-struct ReadFile<'a> {
+pub(crate) struct ReadFile<'a> {
     path: &'a str,
     /// Its bytes, where it can be read.
     bytes: Option<Vec<u8>>,
@@ -114,7 +114,7 @@ impl ReadFile<'_> {
 }
 
 /// The files at the paths, one for each in their order; `NoMemory` where memory runs out.
-fn read_files<'a, R: Files + AllocGlobal>(
+pub(crate) fn read_files<'a, R: Files + AllocGlobal>(
     rt: &R,
     paths: &[&'a str],
 ) -> Result<Vec<ReadFile<'a>>, Fault>
@@ -130,7 +130,7 @@ fn read_files<'a, R: Files + AllocGlobal>(
 }
 
 /// The bytes of the file at the path, so many at most, where it can be read; `NoMemory` where memory runs out.
-fn read_file<R: Files + AllocGlobal>(
+pub(crate) fn read_file<R: Files + AllocGlobal>(
     rt: &R,
     path: &str,
     most: usize,
@@ -143,7 +143,10 @@ fn read_file<R: Files + AllocGlobal>(
 }
 
 /// The same files, lent to a check; `NoMemory` where memory runs out.
-fn suite_of<'a>(alloc: Global, files: &'a [ReadFile<'a>]) -> Result<Vec<SuiteFile<'a>>, Fault>
+pub(crate) fn suite_of<'a>(
+    alloc: Global,
+    files: &'a [ReadFile<'a>],
+) -> Result<Vec<SuiteFile<'a>>, Fault>
     ensures { IfOk result (λ suite. map given_of suite.items ≡ map given_in files.now) }
 {
     Ok(files.iter().map(|file| file.lent()).collect(alloc)?)

@@ -4,12 +4,12 @@ ghost use Rattle.std.specs.Prelude.{◌≡◌, Ok};
 ghost use Rattle.chi_program.specs.Stops.{explain_end, observe_end};
 ghost use Rattle.chi_program.specs.Watches.{types_watched};
 
+use crate::inputs::{file_of, tell_unread};
+use crate::stops::End;
 use chi_observe::{CreditTypes, ObserveOutcome, Progress, WatchOptions, observe};
 use chi_resolution::{Options, Types};
 use chi_script::{Fault, FileInput, StandardOutput};
 use chi_verdict::{Asked, TraceOutcome, explain};
-use crate::inputs::{file_of, tell_unread};
-use crate::stops::End;
 use std::io;
 use std::rt::Files;
 
