@@ -1,7 +1,8 @@
 /* chihome: a proved reference model of an AMBA CHI coherent system in miniature.
  *
- * Three things can be opened: a slice, whose lines are stepped action by action; a whole node on one thread, with its
- * tracker and its requesters; and a monitor, which is given flits and finds the first that no run of the model sends.
+ * Four things can be opened: a slice, whose lines are stepped action by action; a whole node on one thread, with its
+ * tracker and its requesters; a monitor, which is given flits and finds the first that no run of the model sends; and an
+ * observer, which is given those of any home and any caches, and finds the first that isn't safe or that nothing explains.
  * What each call does is in docs/PROTOCOL.md, and the contracts of crates/chi_library say which of it is proved of each
  * call; docs/LIBRARY.md says what is proved up to this header, and what C must uphold:
  *
@@ -16,7 +17,7 @@
  * handle, which is not touched; and an opening of an open handle CHI_AlreadyOpen, which stays. Where a call is not
  * done, all numbers of what it tells are 0, so also such a count; but what tells a length of bytes tells it too where
  * there is not room for them. The openings take memory, chi_slice_load, chi_slice_save, chi_slice_copy, chi_node_slice,
- * and a monitor's calls.
+ * chi_observer_text, and a monitor's calls.
  */
 #ifndef CHIHOME_H
 #define CHIHOME_H
@@ -52,7 +53,7 @@ enum ChiAnswer {
     CHI_OtherSize = 250,    /* of a snapshot: it is of another node, or of another slice of the node */
     CHI_Damaged = 251,      /* of a snapshot: it is none, or not as it was saved */
     CHI_NotKept = 252,      /* of a monitor: no flits are kept */
-    CHI_Fault = 253,        /* of a monitor: no run of the model sends the flit */
+    CHI_Fault = 253,        /* of a monitor: no run of the model sends the flit; of an observer: it doesn't take it */
     CHI_AlreadyOpen = 254,
     CHI_Closed = 255
 };
