@@ -2,7 +2,7 @@
 
 ghost use Rattle.std.specs.Prelude.{◌≡◌, Ok, Some};
 ghost use Rattle.chi_program.specs.declared.faults.ArgFault.{ArgFault};
-ghost use Rattle.chi_program.specs.declared.program.Stop.TheVariants.{Arguments};
+ghost use Rattle.chi_program.specs.declared.stops.Stop.TheVariants.{Arguments};
 ghost use Rattle.chi_program.specs.Stops.{draw_end};
 
 use crate::faults::ArgFault;
