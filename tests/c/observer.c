@@ -246,7 +246,7 @@ static void aside(void) {
     HOLDS(counts.aside == 1 && counts.aside_number == 4 && counts.aside_line == 0x1040 && counts.requests == 0);
     HOLDS(take(&observer, "REQ 9 40 2 ReadUnique 1040 - - 1 - -") == CHI_SetAside);
     HOLDS(take(&observer, "DAT 40 9 2 CompData - UC 11 - - 0,0,0,0,0,0,0,0") == CHI_SetAside);
-    HOLDS(take(&observer, "CPU 9 - - Load 1040 - - - - 5") == CHI_OK);
+    HOLDS(take(&observer, "CPU 9 - - Load 1040 - - - - 5") == CHI_SetAside);
     HOLDS(take(&observer, "REQ 8 40 2 ReadUnique 1080 - - 1 - -") == CHI_OK);
     HOLDS(chi_observer_counts(&observer, &counts) == CHI_OK && counts.aside == 1 && counts.lines == 2 && counts.accesses == 1);
     HOLDS(take(&observer, "DAT 40 8 2 CompData - SC 12 - - 0,0,0,0,0,0,0,0") == CHI_Fault);

@@ -521,7 +521,7 @@ class Observers(unittest.TestCase):
             self.assertFalse(observer.take(up(Opcode.OtherRequest, 9, 1)))
             self.assertFalse(observer.take(up(Opcode.ReadShared, 9, 2)))
             self.assertTrue(observer.take(up(Opcode.ReadShared, 9, 3, 0x2040)))
-            self.assertTrue(observer.take(Seen(Opcode.Load, 9, address=0x1048, words=(5,))))
+            self.assertFalse(observer.take(Seen(Opcode.Load, 9, address=0x1048, words=(5,))))
             counts = observer.counts()
             self.assertEqual((counts.aside, counts.first_aside), (1, chihome.Aside(0x1040, 4)))
             self.assertEqual((counts.flits, counts.lines, counts.accesses, counts.is_complete), (6, 2, 1, False))
