@@ -65,6 +65,7 @@ impl Reply {
     /// Puts its line, with the line end, behind what was printed before. A line and its flits are shown as
     /// they are in the system now. Refused where memory for the text runs out.
     /// Source: `docs/FORMATS.md`, "Replay files".
+    #[inline(always)]
     pub fn print<A: Allocator, B: Allocator>(
         &self,
         system: &System<A>,
@@ -79,6 +80,7 @@ impl Reply {
     }
 
     /// Puts its text there.
+    #[inline(always)]
     fn put<A: Allocator, B: Allocator>(
         &self,
         system: &System<A>,
@@ -103,8 +105,8 @@ impl Reply {
             }
             Reply::Idle => printed.push_str("ok idle"),
             Reply::Credits(credits) => credits.print(printed),
-            Reply::Totals(totals) => print_seldom(totals, printed),
-            Reply::Audit(audit) => print_seldom(audit, printed),
+            Reply::Totals(totals) => print_seldom(*totals, printed),
+            Reply::Audit(audit) => print_seldom(*audit, printed),
             Reply::Line(line) => print_line(system, *line, printed),
             Reply::Flits(agent, line) => print_flits(system, *agent, *line, printed),
             Reply::Refused(refusal) => print_refused(*refusal, printed),
@@ -123,12 +125,12 @@ fn print_refused<A: Allocator>(refusal: Refusal, printed: &mut String<A>) -> Res
 
 /// Prints what is asked for seldom: it isn't inlined, so that the frame of the others stays small.
 #[inline(never)]
-fn print_seldom<W: Printable, A: Allocator>(
-    part: &W,
+fn print_seldom<W: Printable + Copy, A: Allocator>(
+    part: W,
     printed: &mut String<A>,
 ) -> Result<(), AllocError>
     ensures { OnOk result
-        (string_bytes printed.new ≡ string_bytes printed.old ++ W.text part.now) }
+        (string_bytes printed.new ≡ string_bytes printed.old ++ W.text part) }
 {
     part.print(printed)
 }

@@ -15,6 +15,7 @@ use std::alloc::Allocator;
 
 /// Does what a command says, and answers what came of it.
 /// Source: `docs/FORMATS.md`, "Replay files".
+#[inline(always)]
 pub fn answer<A: Allocator>(system: &mut System<A>, command: Command) -> Reply
     ensures { PlaysTurn command system.old system.new result }
 {
@@ -91,6 +92,7 @@ fn shown_flits<A: Allocator>(system: &System<A>, agent: Agent, line: Line) -> Re
 }
 
 /// The agent looks at its promises: its seen credits by type.
+#[inline(always)]
 fn see<A: Allocator>(system: &mut System<A>, agent: Agent) -> Reply
     ensures { PlaysTurn (commands.See agent) system.old system.new result }
 {
