@@ -109,7 +109,7 @@ pub(crate) fn list_ack(agent: Agent, sent: &mut [ChiSent; 8]) -> u8
 
 /// Lists the CompAck that a completion is answered by, if it is.
 pub(crate) fn list_ack_of(agent: Agent, message: u8, sent: &mut [ChiSent; 8]) -> u8
-    ensures { IsListed (map sent_told (if message == 7 then ack_standing agent else []))
+    ensures { IsListed (map sent_told (if message == COMP_UC then ack_standing agent else []))
         sent.old sent.new result }
 {
     if message == COMP_UC {
