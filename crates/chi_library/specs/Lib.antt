@@ -2,6 +2,7 @@ pub mod Numbers
 pub mod Calls
 pub mod Actions
 pub mod Sizes
+pub mod Messages
 pub mod Flits
 pub mod Lines
 pub mod Records
