@@ -21,6 +21,7 @@ pub mod Observed
 pub mod MonitorHandle
 pub mod MonitorFacts
 pub mod MonitorCalls
+pub mod Opcodes
 pub mod SeenFlits
 pub mod ObserverTold
 pub mod ObserverHandle
