@@ -1,5 +1,5 @@
 -- The flits that a step sent stand after it where they are read.
-use Rattle.std.proofs.Common.{◌≡◌, ℕ, ◌+◌, ◌<◌, List, [], ◌∷◌, Bool, true, false, ◌==◌, Option, Some, None, is_some, option_map, refl, sym, ap, ◌∙◌, subst, length, slice_set, get_or-set_same, if◌then◌else◌, arith}
+use Rattle.std.proofs.Common.{◌≡◌, ℕ, ◌+◌, ◌<◌, List, [], ◌∷◌, Bool, true, false, Option, Some, None, is_some, option_map, refl, sym, ap, ◌∙◌, subst, length, slice_set, get_or-set_same, if◌then◌else◌, arith}
 use Rattle.chi_flit.specs.declared.action.Step.{Step}
 use Rattle.chi_flit.specs.declared.action.Step.TheVariants as steps
 use Rattle.chi_flit.specs.declared.credit.Profile.{Profile}
@@ -25,7 +25,7 @@ use Rattle.chi_slice.proofs.Passed.{IsRetried, dbid_there, flit_there, may_resen
 use Rattle.chi_library.specs.Taken.{message_taken}
 use Rattle.chi_library.specs.declared.flits.ChiFlit.{ChiFlit}
 use Rattle.chi_library.specs.Flits.{taken_told}
-use Rattle.chi_library.specs.Standing.{ack_standing, completion_standing, down_on, line_standing, snoops_standing, start_standing, up_on, words_due}
+use Rattle.chi_library.specs.Standing.{ack_due, completion_standing, down_on, line_standing, snoops_standing, start_standing, up_on, words_due}
 use Rattle.chi_library.proofs.AnswerFlits.{answered}
 
 within : (n : ℕ) (flits : List Cells) → n < 8 → length flits ≡ 8 → n < length flits
@@ -52,10 +52,7 @@ dbid_received s agent None there low = absurd (cc (there))
 dbid_received s agent (Some request) there low = ap (λ (c : Cells). flit_of agent (cell_of c channels.DatUp)) (put s.flits agent.0 _ low)
 
 -- RecvComp: the number of the message that was taken tells which it was
-abbrev acked : Agent → ℕ → List Flit
-acked agent message = if message == 7 then ack_standing agent else []
-
-comp_received : (agent : Agent) (response : Option RspDown) → acked agent (taken_told (flit_of agent (option_map messages.RspDown response))).flit.message ≡ flit_of agent (completion_ack response)
+comp_received : (agent : Agent) (response : Option RspDown) → ack_due agent (taken_told (flit_of agent (option_map messages.RspDown response))).flit.message ≡ flit_of agent (completion_ack response)
 comp_received agent None = refl
 comp_received agent (Some (RetryAck ty)) = refl
 comp_received agent (Some CompUC) = refl
@@ -193,7 +190,7 @@ stands c last s agent before taken steps.RecvSnpResp low k may served is =
     ap (λ (v : Serving). completion_standing v left.serving left.filter.unique (words_due taken left.memory)) served ∙ answered c.profile s agent taken is
 stands c last s agent before taken steps.RecvData low k may served is = refl
 stands c last s agent before taken steps.RecvComp low k may served is =
-    ap (λ (f : ChiFlit). acked agent f.message) is ∙ comp_received agent (cells_of s agent.0).rsp_down
+    ap (λ (f : ChiFlit). ack_due agent f.message) is ∙ comp_received agent (cells_of s agent.0).rsp_down
 stands c last s agent before taken steps.RecvAck low k may served is = refl
 stands c last s agent before taken steps.RecvDbid low k may served is =
     let here = dbid_there (cells_of s agent.0).rsp_down (flit_there (is_dbid (cells_of s agent.0).rsp_down) may) in

@@ -2,6 +2,7 @@ pub mod Numbers
 pub mod Calls
 pub mod Actions
 pub mod Sizes
+pub mod Messages
 pub mod Flits
 pub mod Lines
 pub mod Records
@@ -20,6 +21,7 @@ pub mod Observed
 pub mod MonitorHandle
 pub mod MonitorFacts
 pub mod MonitorCalls
+pub mod Opcodes
 pub mod SeenFlits
 pub mod ObserverTold
 pub mod ObserverHandle

@@ -13,6 +13,7 @@ use Rattle.chi_flit.specs.declared.state.State.TheVariants.{I, SC, UC, UD, SD}
 use Rattle.chi_explain.specs.declared.sent.SentFlit.{SentFlit}
 use Rattle.chi_library.specs.declared.flits.ChiFlit.{ChiFlit}
 use Rattle.chi_library.specs.declared.flits.ChiSent.{ChiSent}
+use Rattle.chi_library.specs.Messages as numbers
 use Rattle.chi_flit.specs.Kind.{kind_numbered}
 
 -- a request needs a kind, and a RetryAck a credit type; a request's slot isn't read
@@ -27,47 +28,47 @@ retry_if (Some ty) = Some (RspDown (RetryAck ty))
 -- a request or a snoop
 abbrev pub asked_of : ChiFlit → Option Msg
 asked_of flit =
-    if flit.message == 1 then request_if (kind_numbered flit.kind) flit else (
-    if flit.message == 2 then Some (Snp SnpShared) else (
-    if flit.message == 3 then Some (Snp SnpNotSharedDirty) else (
-    if flit.message == 4 then Some (Snp SnpUnique) else (
-    if flit.message == 5 then Some (Snp SnpCleanInvalid) else None))))
+    if flit.message == numbers.request then request_if (kind_numbered flit.kind) flit else (
+    if flit.message == numbers.snp_shared then Some (Snp SnpShared) else (
+    if flit.message == numbers.snp_not_shared_dirty then Some (Snp SnpNotSharedDirty) else (
+    if flit.message == numbers.snp_unique then Some (Snp SnpUnique) else (
+    if flit.message == numbers.snp_clean_invalid then Some (Snp SnpCleanInvalid) else None))))
 
 -- a response to a requester, or the data of a read
 abbrev pub response_of : ChiFlit → Option Msg
 response_of flit =
-    if flit.message == 6 then retry_if (credit_of flit.credit) else (
-    if flit.message == 7 then Some (RspDown CompUC) else (
-    if flit.message == 8 then Some (RspDown CompI) else (
-    if flit.message == 9 then Some (RspDown CompDBIDResp) else (
-    if flit.message == 10 then Some (DatDown (record { words = flit.words; unique = false })) else (
-    if flit.message == 11 then Some (DatDown (record { words = flit.words; unique = true })) else None)))))
+    if flit.message == numbers.retry_ack then retry_if (credit_of flit.credit) else (
+    if flit.message == numbers.comp_uc then Some (RspDown CompUC) else (
+    if flit.message == numbers.comp_i then Some (RspDown CompI) else (
+    if flit.message == numbers.comp_dbid_resp then Some (RspDown CompDBIDResp) else (
+    if flit.message == numbers.comp_data_sc then Some (DatDown (record { words = flit.words; unique = false })) else (
+    if flit.message == numbers.comp_data_uc then Some (DatDown (record { words = flit.words; unique = true })) else None)))))
 
 -- a response of a requester, with or without data
 abbrev pub answered_of : ChiFlit → Option Msg
 answered_of flit =
-    if flit.message == 12 then Some (RspUp SnpRespI) else (
-    if flit.message == 13 then Some (RspUp SnpRespSC) else (
-    if flit.message == 14 then Some (RspUp CompAck) else (
-    if flit.message == 15 then Some (DatUp (SnpRespDataIPD flit.words)) else (
-    if flit.message == 16 then Some (DatUp (SnpRespDataSCPD flit.words)) else (
-    if flit.message == 17 then Some (DatUp (SnpRespDataSD flit.words)) else None)))))
+    if flit.message == numbers.snp_resp_i then Some (RspUp SnpRespI) else (
+    if flit.message == numbers.snp_resp_sc then Some (RspUp SnpRespSC) else (
+    if flit.message == numbers.comp_ack then Some (RspUp CompAck) else (
+    if flit.message == numbers.snp_resp_data_i_pd then Some (DatUp (SnpRespDataIPD flit.words)) else (
+    if flit.message == numbers.snp_resp_data_sc_pd then Some (DatUp (SnpRespDataSCPD flit.words)) else (
+    if flit.message == numbers.snp_resp_data_sd then Some (DatUp (SnpRespDataSD flit.words)) else None)))))
 
 -- write data
 abbrev pub write_of : ChiFlit → Option Msg
 write_of flit =
-    if flit.message == 18 then Some (DatUp (CopyBackWrData I flit.words)) else (
-    if flit.message == 19 then Some (DatUp (CopyBackWrData SC flit.words)) else (
-    if flit.message == 20 then Some (DatUp (CopyBackWrData UC flit.words)) else (
-    if flit.message == 21 then Some (DatUp (CopyBackWrData UD flit.words)) else (
-    if flit.message == 22 then Some (DatUp (CopyBackWrData SD flit.words)) else None))))
+    if flit.message == numbers.copy_back_wr_data_i then Some (DatUp (CopyBackWrData I flit.words)) else (
+    if flit.message == numbers.copy_back_wr_data_sc then Some (DatUp (CopyBackWrData SC flit.words)) else (
+    if flit.message == numbers.copy_back_wr_data_uc then Some (DatUp (CopyBackWrData UC flit.words)) else (
+    if flit.message == numbers.copy_back_wr_data_ud_pd then Some (DatUp (CopyBackWrData UD flit.words)) else (
+    if flit.message == numbers.copy_back_wr_data_sd_pd then Some (DatUp (CopyBackWrData SD flit.words)) else None))))
 
 -- the message that C's numbers name
 abbrev pub observed_message : ChiFlit → Option Msg
 observed_message flit =
-    if nat_lt flit.message 6 then asked_of flit else (
-    if nat_lt flit.message 12 then response_of flit else (
-    if nat_lt flit.message 18 then answered_of flit else write_of flit))
+    if nat_lt flit.message numbers.retry_ack then asked_of flit else (
+    if nat_lt flit.message numbers.snp_resp_i then response_of flit else (
+    if nat_lt flit.message numbers.copy_back_wr_data_i then answered_of flit else write_of flit))
 
 abbrev pub observed_if : ℕ → Option Msg → Option SentFlit
 observed_if n None = None

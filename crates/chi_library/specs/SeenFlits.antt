@@ -1,5 +1,5 @@
 -- A flit that C gives an observer, as a line of a trace (docs/LIBRARY.md, "An observer").
-use Rattle.std.specs.Prelude.{ℕ, ◌==◌, ◌/◌, ◌%◌, ◌&&◌, ◌||◌, Bool, true, false, nat_le, nat_lt, List, [], ◌∷◌, Option, Some, None, if◌then◌else◌, option_map}
+use Rattle.std.specs.Prelude.{ℕ, ◌==◌, ◌/◌, ◌%◌, ◌&&◌, ◌||◌, Bool, nat_le, nat_lt, List, [], ◌∷◌, Option, Some, None, if◌then◌else◌, option_map}
 use Rattle.std.specs.List.{slice_index_or}
 use Rattle.chi_flit.specs.declared.kind.Kind.{Kind}
 use Rattle.chi_flit.specs.declared.kind.Kind.TheVariants as kinds
@@ -23,6 +23,7 @@ use Rattle.chi_trace.specs.declared.flits.Flit.TheVariants as flits
 use Rattle.chi_trace.specs.declared.flits.RequestFields.{RequestFields}
 use Rattle.chi_trace.specs.declared.flits.SnoopFields.{SnoopFields}
 use Rattle.chi_trace.specs.declared.flits.Transaction.{Transaction}
+use Rattle.chi_library.specs.Opcodes as opcodes
 use Rattle.chi_library.specs.declared.seen_flits.ChiSeen.{ChiSeen}
 
 -- a RESP, and a credit type
@@ -96,22 +97,22 @@ other_kind_flit kind fields = any.Request kind fields
 
 abbrev pub request_flit : ℕ → RequestFields → Option AnyFlit
 request_flit opcode fields =
-    if opcode == 1 then Some (kind_flit kinds.ReadNotSharedDirty fields) else (
-    if opcode == 2 then Some (kind_flit kinds.ReadShared fields) else (
-    if opcode == 3 then Some (other_kind_flit others.ReadClean fields) else (
-    if opcode == 4 then Some (other_kind_flit others.ReadOnce fields) else (
-    if opcode == 5 then Some (kind_flit kinds.ReadUnique fields) else (
-    if opcode == 6 then Some (kind_flit kinds.CleanUnique fields) else (
-    if opcode == 7 then Some (other_kind_flit others.MakeUnique fields) else (
-    if opcode == 8 then Some (other_kind_flit others.CleanShared fields) else (
-    if opcode == 9 then Some (other_kind_flit others.CleanInvalid fields) else (
-    if opcode == 10 then Some (other_kind_flit others.MakeInvalid fields) else (
-    if opcode == 11 then Some (kind_flit kinds.Evict fields) else (
-    if opcode == 12 then Some (kind_flit kinds.WriteBackFull fields) else (
-    if opcode == 13 then Some (kind_flit kinds.WriteCleanFull fields) else (
-    if opcode == 14 then Some (kind_flit kinds.WriteEvictFull fields) else (
-    if opcode == 15 then Some (other_kind_flit others.WriteUniqueFull fields) else (
-    if opcode == 37 then Some (any.UnknownRequest fields) else None)))))))))))))))
+    if opcode == opcodes.read_not_shared_dirty then Some (kind_flit kinds.ReadNotSharedDirty fields) else (
+    if opcode == opcodes.read_shared then Some (kind_flit kinds.ReadShared fields) else (
+    if opcode == opcodes.read_clean then Some (other_kind_flit others.ReadClean fields) else (
+    if opcode == opcodes.read_once then Some (other_kind_flit others.ReadOnce fields) else (
+    if opcode == opcodes.read_unique then Some (kind_flit kinds.ReadUnique fields) else (
+    if opcode == opcodes.clean_unique then Some (kind_flit kinds.CleanUnique fields) else (
+    if opcode == opcodes.make_unique then Some (other_kind_flit others.MakeUnique fields) else (
+    if opcode == opcodes.clean_shared then Some (other_kind_flit others.CleanShared fields) else (
+    if opcode == opcodes.clean_invalid then Some (other_kind_flit others.CleanInvalid fields) else (
+    if opcode == opcodes.make_invalid then Some (other_kind_flit others.MakeInvalid fields) else (
+    if opcode == opcodes.evict then Some (kind_flit kinds.Evict fields) else (
+    if opcode == opcodes.write_back_full then Some (kind_flit kinds.WriteBackFull fields) else (
+    if opcode == opcodes.write_clean_full then Some (kind_flit kinds.WriteCleanFull fields) else (
+    if opcode == opcodes.write_evict_full then Some (kind_flit kinds.WriteEvictFull fields) else (
+    if opcode == opcodes.write_unique_full then Some (other_kind_flit others.WriteUniqueFull fields) else (
+    if opcode == opcodes.other_request then Some (any.UnknownRequest fields) else None)))))))))))))))
 
 abbrev pub requesting : ℕ → Option RequestFields → Option AnyFlit
 requesting opcode None = None
@@ -129,15 +130,15 @@ other_asking_flit snoop fields = any.Snoop snoop fields
 
 abbrev pub snoop_flit : ℕ → SnoopFields → Option AnyFlit
 snoop_flit opcode fields =
-    if opcode == 17 then Some (other_asking_flit other_snoops.SnpOnce fields) else (
-    if opcode == 18 then Some (other_asking_flit other_snoops.SnpClean fields) else (
-    if opcode == 19 then Some (asking_flit snoops.SnpShared fields) else (
-    if opcode == 20 then Some (asking_flit snoops.SnpNotSharedDirty fields) else (
-    if opcode == 21 then Some (other_asking_flit other_snoops.SnpCleanShared fields) else (
-    if opcode == 22 then Some (asking_flit snoops.SnpUnique fields) else (
-    if opcode == 23 then Some (asking_flit snoops.SnpCleanInvalid fields) else (
-    if opcode == 24 then Some (other_asking_flit other_snoops.SnpMakeInvalid fields) else (
-    if opcode == 38 then Some (any.UnknownSnoop fields) else None))))))))
+    if opcode == opcodes.snp_once then Some (other_asking_flit other_snoops.SnpOnce fields) else (
+    if opcode == opcodes.snp_clean then Some (other_asking_flit other_snoops.SnpClean fields) else (
+    if opcode == opcodes.snp_shared then Some (asking_flit snoops.SnpShared fields) else (
+    if opcode == opcodes.snp_not_shared_dirty then Some (asking_flit snoops.SnpNotSharedDirty fields) else (
+    if opcode == opcodes.snp_clean_shared then Some (other_asking_flit other_snoops.SnpCleanShared fields) else (
+    if opcode == opcodes.snp_unique then Some (asking_flit snoops.SnpUnique fields) else (
+    if opcode == opcodes.snp_clean_invalid then Some (asking_flit snoops.SnpCleanInvalid fields) else (
+    if opcode == opcodes.snp_make_invalid then Some (other_asking_flit other_snoops.SnpMakeInvalid fields) else (
+    if opcode == opcodes.other_snoop then Some (any.UnknownSnoop fields) else None))))))))
 
 -- responses and credits
 abbrev pub retrying : ChiSeen → PcrdType → Flit
@@ -187,13 +188,13 @@ profile_if (Some flit) = Some (any.Profile flit)
 
 abbrev pub response_at : ChiSeen → Option AnyFlit
 response_at s =
-    if s.opcode == 16 then profile_if (return_flit s) else (
-    if s.opcode == 25 then profile_if (retry_flit s) else (
-    if s.opcode == 26 then completion_flit s else (
-    if s.opcode == 27 then profile_if (buffer_flit s) else (
-    if s.opcode == 28 then profile_if (grant_flit s) else (
-    if s.opcode == 29 then profile_if (answer_flit s) else (
-    if s.opcode == 30 then Some (any.Profile (flits.CompAck (transaction_at s))) else None))))))
+    if s.opcode == opcodes.pcrd_return then profile_if (return_flit s) else (
+    if s.opcode == opcodes.retry_ack then profile_if (retry_flit s) else (
+    if s.opcode == opcodes.comp then completion_flit s else (
+    if s.opcode == opcodes.comp_dbid_resp then profile_if (buffer_flit s) else (
+    if s.opcode == opcodes.pcrd_grant then profile_if (grant_flit s) else (
+    if s.opcode == opcodes.snp_resp then profile_if (answer_flit s) else (
+    if s.opcode == opcodes.comp_ack then Some (any.Profile (flits.CompAck (transaction_at s))) else None))))))
 
 -- data
 abbrev pub read_of : Resp → Option DbId → Transaction → Beat → AnyFlit
@@ -202,10 +203,10 @@ read_of resp None t beat = any.CompData resp t beat
 
 abbrev pub data_of : ChiSeen → Resp → Beat → Option AnyFlit
 data_of s resp beat =
-    if s.opcode == 31 then Some (read_of resp (dbid_named s) (transaction_at s) beat) else (
-    if s.opcode == 32 then Some (any.Profile (flits.SnpRespData resp (transaction_at s) beat)) else (
-    if s.opcode == 33 then Some (any.Profile (flits.CopyBackWrData resp (transaction_at s) beat)) else (
-    if s.opcode == 34 then Some (any.NonCopyBackWrData resp (transaction_at s) beat) else None)))
+    if s.opcode == opcodes.comp_data then Some (read_of resp (dbid_named s) (transaction_at s) beat) else (
+    if s.opcode == opcodes.snp_resp_data then Some (any.Profile (flits.SnpRespData resp (transaction_at s) beat)) else (
+    if s.opcode == opcodes.copy_back_wr_data then Some (any.Profile (flits.CopyBackWrData resp (transaction_at s) beat)) else (
+    if s.opcode == opcodes.non_copy_back_wr_data then Some (any.NonCopyBackWrData resp (transaction_at s) beat) else None)))
 
 abbrev pub data_with : ChiSeen → Option Resp → Option Beat → Option AnyFlit
 data_with s None beat = None
@@ -218,26 +219,26 @@ data_at s = data_with s (resp_at s.resp) (beat_at s)
 -- loads and stores, and what has no number of its own
 abbrev pub other_at : ChiSeen → Option AnyFlit
 other_at s =
-    if s.opcode == 35 then Some (any.Profile (flits.Load (record { 0 = s.address }) (slice_index_or s.words 0 0))) else (
-    if s.opcode == 36 then Some (any.Profile (flits.Store (record { 0 = s.address }) (slice_index_or s.words 0 0))) else (
-    if s.opcode == 39 then Some (any.UnknownAnswer (transaction_at s)) else (
-    if s.opcode == 40 then Some (any.UnknownReply (transaction_at s) (dbid_named s)) else None)))
+    if s.opcode == opcodes.load then Some (any.Profile (flits.Load (record { 0 = s.address }) (slice_index_or s.words 0 0))) else (
+    if s.opcode == opcodes.store then Some (any.Profile (flits.Store (record { 0 = s.address }) (slice_index_or s.words 0 0))) else (
+    if s.opcode == opcodes.other_answer then Some (any.UnknownAnswer (transaction_at s)) else (
+    if s.opcode == opcodes.other_reply then Some (any.UnknownReply (transaction_at s) (dbid_named s)) else None)))
 
 -- each opcode by its channel
 abbrev pub is_between : ℕ → ℕ → ℕ → Bool
 is_between first last n = nat_le first n && nat_le n last
 
 abbrev pub is_request : ℕ → Bool
-is_request n = is_between 1 15 n || n == 37
+is_request n = is_between opcodes.read_not_shared_dirty opcodes.write_unique_full n || n == opcodes.other_request
 
 abbrev pub is_snoop : ℕ → Bool
-is_snoop n = is_between 17 24 n || n == 38
+is_snoop n = is_between opcodes.snp_once opcodes.snp_make_invalid n || n == opcodes.other_snoop
 
 abbrev pub is_response : ℕ → Bool
-is_response n = n == 16 || is_between 25 30 n
+is_response n = n == opcodes.pcrd_return || is_between opcodes.retry_ack opcodes.comp_ack n
 
 abbrev pub is_data : ℕ → Bool
-is_data n = is_between 31 34 n
+is_data n = is_between opcodes.comp_data opcodes.non_copy_back_wr_data n
 
 abbrev pub flit_at : ChiSeen → Option AnyFlit
 flit_at s =

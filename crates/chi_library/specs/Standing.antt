@@ -19,6 +19,7 @@ use Rattle.chi_slice.specs.Servings.{AwaitingCompAck, Snooping}
 use Rattle.chi_slice.specs.Words.{Cells, Flit, LineState, Serving, cell_of, cells_of, completion_message, flit, flit_of, snoop_flits}
 use Rattle.chi_library.specs.declared.flits.ChiFlit.{ChiFlit}
 use Rattle.chi_library.specs.declared.flits.ChiSent.{ChiSent}
+use Rattle.chi_library.specs.Messages as numbers
 use Rattle.chi_library.specs.Flits.{data_told, no_sent, sent_told}
 
 abbrev pub opened_sent : Agent → ℕ → ChiSent
@@ -55,6 +56,10 @@ first_request kind slot = messages.Req (record { kind = kind; slot = slot; allow
 abbrev pub ack_standing : Agent → List Flit
 ack_standing agent = flit agent (messages.RspUp CompAck) ∷ []
 
+-- the CompAck that a completion is answered by, if it is
+abbrev pub ack_due : Agent → ℕ → List Flit
+ack_due agent message = if message == numbers.comp_uc then ack_standing agent else []
+
 -- what stands on a channel between an agent and the home
 abbrev pub cell_standing : Agent → Cells → Channel → List Flit
 cell_standing agent cells channel = flit_of agent (cell_of cells channel)
@@ -71,7 +76,7 @@ start_standing agent other awaited cells = cell_standing agent cells (down_on ce
 -- the data of a completion that an answer brought: that of SnpRespData_SD where the answer was that, else the memory
 -- after it
 abbrev pub words_due : ChiFlit → List ℕ → List ℕ
-words_due taken memory = if taken.message == 17 then taken.words else memory
+words_due taken memory = if taken.message == numbers.snp_resp_data_sd then taken.words else memory
 
 -- the completion that an answer brought, by what the home served before it and what it serves after it
 abbrev pub completed_standing : Serving → Agent → Kind → Bool → List ℕ → List Flit
@@ -82,8 +87,7 @@ abbrev pub completion_standing : Serving → Serving → Bool → List ℕ → L
 completion_standing (Snooping agent kind slot) after unique words = completed_standing after agent kind unique words
 completion_standing other after unique words = []
 
--- what a step sent, by the line after it, what the home served before it, and the message that it took: a CompAck where
--- that is Comp_UC
+-- what a step sent, by the line after it, what the home served before it, and the message that it took
 abbrev pub line_standing : LineState → Agent → Serving → ChiFlit → Step → List Flit
 line_standing s agent before taken (steps.Issue kind slot) = flit agent (first_request kind slot) ∷ []
 line_standing s agent before taken steps.Retry = cell_standing agent (cells_of s agent.0) channels.RspDown
@@ -93,6 +97,6 @@ line_standing s agent before taken steps.RecvSnp = cell_standing agent (cells_of
 line_standing s agent before taken steps.RecvSnpResp =
     completion_standing before s.home.serving s.home.filter.unique (words_due taken s.home.memory)
 line_standing s agent before taken steps.RecvData = ack_standing agent
-line_standing s agent before taken steps.RecvComp = if taken.message == 7 then ack_standing agent else []
+line_standing s agent before taken steps.RecvComp = ack_due agent taken.message
 line_standing s agent before taken steps.RecvDbid = cell_standing agent (cells_of s agent.0) channels.DatUp
 line_standing s agent before taken other = []

@@ -6,6 +6,12 @@ ghost use Rattle.chi_slice.specs.Words.{cell_of, channel_number, flit, flit_of};
 ghost use Rattle.chi_library.specs.Standing.{data_sent, opened_sent, read_data, told_or};
 ghost use Rattle.chi_library.specs.Flits.{dat_down_message, dat_up_told, flit_told, flits_told, no_flit, request_told, response_told, rsp_up_message, sent_told, snoop_message, write_message};
 
+use crate::messages::{
+    COMP_ACK, COMP_DATA_SC, COMP_DATA_UC, COMP_DBID_RESP, COMP_I, COMP_UC, COPY_BACK_WR_DATA_I,
+    COPY_BACK_WR_DATA_SC, COPY_BACK_WR_DATA_SD_PD, COPY_BACK_WR_DATA_UC, COPY_BACK_WR_DATA_UD_PD,
+    NO_MESSAGE, REQUEST, RETRY_ACK, SNP_CLEAN_INVALID, SNP_NOT_SHARED_DIRTY, SNP_RESP_DATA_I_PD,
+    SNP_RESP_DATA_SC_PD, SNP_RESP_DATA_SD, SNP_RESP_I, SNP_RESP_SC, SNP_SHARED, SNP_UNIQUE,
+};
 use crate::numbers::flag_number;
 use chi_flit::{
     Agent, Channel, CompData, DatUp, Data, Msg, NO_DATA, Request, RspDown, RspUp, Snoop, State,
@@ -51,7 +57,7 @@ pub struct ChiSent {
 impl ChiFlit {
     /// No message: all numbers are 0.
     pub(crate) const NONE: ChiFlit = ChiFlit {
-        message: 0,
+        message: NO_MESSAGE,
         kind: 0,
         slot: 0,
         allow_retry: 0,
@@ -83,7 +89,7 @@ fn tell_request(flit: &mut ChiFlit, request: &Request)
     requires { flit.old ≡ no_flit }
     ensures { flit.new ≡ request_told request.now }
 {
-    flit.message = 1;
+    flit.message = REQUEST;
     flit.kind = request.kind.number();
     flit.slot = request.slot.0;
     flit.allow_retry = flag_number(request.allow_retry);
@@ -94,10 +100,10 @@ fn snoop_message(snoop: Snoop) -> u8
     ensures { result ≡ snoop_message snoop }
 {
     match snoop {
-        Snoop::SnpShared => 2,
-        Snoop::SnpNotSharedDirty => 3,
-        Snoop::SnpUnique => 4,
-        Snoop::SnpCleanInvalid => 5,
+        Snoop::SnpShared => SNP_SHARED,
+        Snoop::SnpNotSharedDirty => SNP_NOT_SHARED_DIRTY,
+        Snoop::SnpUnique => SNP_UNIQUE,
+        Snoop::SnpCleanInvalid => SNP_CLEAN_INVALID,
     }
 }
 
@@ -108,12 +114,12 @@ fn tell_response(flit: &mut ChiFlit, response: &RspDown)
 {
     match response {
         RspDown::RetryAck(credit) => {
-            flit.message = 6;
+            flit.message = RETRY_ACK;
             flit.credit = credit.number();
         }
-        RspDown::CompUC => flit.message = 7,
-        RspDown::CompI => flit.message = 8,
-        RspDown::CompDBIDResp => flit.message = 9,
+        RspDown::CompUC => flit.message = COMP_UC,
+        RspDown::CompI => flit.message = COMP_I,
+        RspDown::CompDBIDResp => flit.message = COMP_DBID_RESP,
     }
 }
 
@@ -121,7 +127,7 @@ fn tell_response(flit: &mut ChiFlit, response: &RspDown)
 fn dat_down_message(unique: bool) -> u8
     ensures { result ≡ dat_down_message unique }
 {
-    if unique { 11 } else { 10 }
+    if unique { COMP_DATA_UC } else { COMP_DATA_SC }
 }
 
 /// The number of a response without data to the home.
@@ -129,9 +135,9 @@ fn rsp_up_message(response: RspUp) -> u8
     ensures { result ≡ rsp_up_message response }
 {
     match response {
-        RspUp::SnpRespI => 12,
-        RspUp::SnpRespSC => 13,
-        RspUp::CompAck => 14,
+        RspUp::SnpRespI => SNP_RESP_I,
+        RspUp::SnpRespSC => SNP_RESP_SC,
+        RspUp::CompAck => COMP_ACK,
     }
 }
 
@@ -140,11 +146,11 @@ fn write_message(state: State) -> u8
     ensures { result ≡ write_message state }
 {
     match state {
-        State::I => 18,
-        State::SC => 19,
-        State::UC => 20,
-        State::UD => 21,
-        State::SD => 22,
+        State::I => COPY_BACK_WR_DATA_I,
+        State::SC => COPY_BACK_WR_DATA_SC,
+        State::UC => COPY_BACK_WR_DATA_UC,
+        State::UD => COPY_BACK_WR_DATA_UD_PD,
+        State::SD => COPY_BACK_WR_DATA_SD_PD,
     }
 }
 
@@ -154,9 +160,9 @@ fn dat_up_message(response: &DatUp) -> u8
     ensures { result ≡ (dat_up_told response.now).message }
 {
     match response {
-        DatUp::SnpRespDataIPD(_) => 15,
-        DatUp::SnpRespDataSCPD(_) => 16,
-        DatUp::SnpRespDataSD(_) => 17,
+        DatUp::SnpRespDataIPD(_) => SNP_RESP_DATA_I_PD,
+        DatUp::SnpRespDataSCPD(_) => SNP_RESP_DATA_SC_PD,
+        DatUp::SnpRespDataSD(_) => SNP_RESP_DATA_SD,
         DatUp::CopyBackWrData(state, _) => write_message(*state),
     }
 }

@@ -4,6 +4,12 @@ ghost use Rattle.std.specs.Prelude.{◌≡◌};
 ghost use Rattle.chi_library.specs.Observed.{answered_of, asked_of, observed_message, observed_of, request_if, response_of, retry_if, write_of};
 
 use crate::flits::{ChiFlit, ChiSent};
+use crate::messages::{
+    COMP_ACK, COMP_DATA_SC, COMP_DATA_UC, COMP_DBID_RESP, COMP_I, COMP_UC, COPY_BACK_WR_DATA_I,
+    COPY_BACK_WR_DATA_SC, COPY_BACK_WR_DATA_SD_PD, COPY_BACK_WR_DATA_UC, COPY_BACK_WR_DATA_UD_PD,
+    REQUEST, RETRY_ACK, SNP_CLEAN_INVALID, SNP_NOT_SHARED_DIRTY, SNP_RESP_DATA_I_PD,
+    SNP_RESP_DATA_SC_PD, SNP_RESP_DATA_SD, SNP_RESP_I, SNP_RESP_SC, SNP_SHARED, SNP_UNIQUE,
+};
 use chi_explain::SentFlit;
 use chi_flit::{
     Agent, CompData, CreditType, DatUp, Kind, Msg, Request, RspDown, RspUp, Slot, Snoop, State,
@@ -33,11 +39,11 @@ fn asked_at(flit: &ChiFlit) -> Option<Msg>
     ensures { result ≡ asked_of flit.now }
 {
     match flit.message {
-        1 => request_if(Kind::numbered(flit.kind), flit),
-        2 => Some(Msg::Snp(Snoop::SnpShared)),
-        3 => Some(Msg::Snp(Snoop::SnpNotSharedDirty)),
-        4 => Some(Msg::Snp(Snoop::SnpUnique)),
-        5 => Some(Msg::Snp(Snoop::SnpCleanInvalid)),
+        REQUEST => request_if(Kind::numbered(flit.kind), flit),
+        SNP_SHARED => Some(Msg::Snp(Snoop::SnpShared)),
+        SNP_NOT_SHARED_DIRTY => Some(Msg::Snp(Snoop::SnpNotSharedDirty)),
+        SNP_UNIQUE => Some(Msg::Snp(Snoop::SnpUnique)),
+        SNP_CLEAN_INVALID => Some(Msg::Snp(Snoop::SnpCleanInvalid)),
         _ => None,
     }
 }
@@ -48,15 +54,15 @@ fn response_at(flit: &ChiFlit) -> Option<Msg>
 {
     let words = flit.words;
     match flit.message {
-        6 => retry_if(CreditType::numbered(flit.credit)),
-        7 => Some(Msg::RspDown(RspDown::CompUC)),
-        8 => Some(Msg::RspDown(RspDown::CompI)),
-        9 => Some(Msg::RspDown(RspDown::CompDBIDResp)),
-        10 => Some(Msg::DatDown(CompData {
+        RETRY_ACK => retry_if(CreditType::numbered(flit.credit)),
+        COMP_UC => Some(Msg::RspDown(RspDown::CompUC)),
+        COMP_I => Some(Msg::RspDown(RspDown::CompI)),
+        COMP_DBID_RESP => Some(Msg::RspDown(RspDown::CompDBIDResp)),
+        COMP_DATA_SC => Some(Msg::DatDown(CompData {
             words,
             unique: false,
         })),
-        11 => Some(Msg::DatDown(CompData {
+        COMP_DATA_UC => Some(Msg::DatDown(CompData {
             words,
             unique: true,
         })),
@@ -69,12 +75,12 @@ fn answer_at(flit: &ChiFlit) -> Option<Msg>
     ensures { result ≡ answered_of flit.now }
 {
     match flit.message {
-        12 => Some(Msg::RspUp(RspUp::SnpRespI)),
-        13 => Some(Msg::RspUp(RspUp::SnpRespSC)),
-        14 => Some(Msg::RspUp(RspUp::CompAck)),
-        15 => Some(Msg::DatUp(DatUp::SnpRespDataIPD(flit.words))),
-        16 => Some(Msg::DatUp(DatUp::SnpRespDataSCPD(flit.words))),
-        17 => Some(Msg::DatUp(DatUp::SnpRespDataSD(flit.words))),
+        SNP_RESP_I => Some(Msg::RspUp(RspUp::SnpRespI)),
+        SNP_RESP_SC => Some(Msg::RspUp(RspUp::SnpRespSC)),
+        COMP_ACK => Some(Msg::RspUp(RspUp::CompAck)),
+        SNP_RESP_DATA_I_PD => Some(Msg::DatUp(DatUp::SnpRespDataIPD(flit.words))),
+        SNP_RESP_DATA_SC_PD => Some(Msg::DatUp(DatUp::SnpRespDataSCPD(flit.words))),
+        SNP_RESP_DATA_SD => Some(Msg::DatUp(DatUp::SnpRespDataSD(flit.words))),
         _ => None,
     }
 }
@@ -84,11 +90,11 @@ fn write_at(flit: &ChiFlit) -> Option<Msg>
     ensures { result ≡ write_of flit.now }
 {
     match flit.message {
-        18 => Some(Msg::DatUp(DatUp::CopyBackWrData(State::I, flit.words))),
-        19 => Some(Msg::DatUp(DatUp::CopyBackWrData(State::SC, flit.words))),
-        20 => Some(Msg::DatUp(DatUp::CopyBackWrData(State::UC, flit.words))),
-        21 => Some(Msg::DatUp(DatUp::CopyBackWrData(State::UD, flit.words))),
-        22 => Some(Msg::DatUp(DatUp::CopyBackWrData(State::SD, flit.words))),
+        COPY_BACK_WR_DATA_I => Some(Msg::DatUp(DatUp::CopyBackWrData(State::I, flit.words))),
+        COPY_BACK_WR_DATA_SC => Some(Msg::DatUp(DatUp::CopyBackWrData(State::SC, flit.words))),
+        COPY_BACK_WR_DATA_UC => Some(Msg::DatUp(DatUp::CopyBackWrData(State::UC, flit.words))),
+        COPY_BACK_WR_DATA_UD_PD => Some(Msg::DatUp(DatUp::CopyBackWrData(State::UD, flit.words))),
+        COPY_BACK_WR_DATA_SD_PD => Some(Msg::DatUp(DatUp::CopyBackWrData(State::SD, flit.words))),
         _ => None,
     }
 }
@@ -97,11 +103,11 @@ fn write_at(flit: &ChiFlit) -> Option<Msg>
 fn message_at(flit: &ChiFlit) -> Option<Msg>
     ensures { result ≡ observed_message flit.now }
 {
-    if flit.message < 6 {
+    if flit.message < RETRY_ACK {
         asked_at(flit)
-    } else if flit.message < 12 {
+    } else if flit.message < SNP_RESP_I {
         response_at(flit)
-    } else if flit.message < 18 {
+    } else if flit.message < COPY_BACK_WR_DATA_I {
         answer_at(flit)
     } else {
         write_at(flit)

@@ -6,6 +6,12 @@ ghost use Rattle.chi_library.specs.ObserverTold.{account_told, aside_line, aside
 
 use crate::answers::{DONE, FAULT, FULL, NO_MEMORY, SET_ASIDE};
 use crate::numbers::flag_number;
+use crate::opcodes::{
+    CLEAN_INVALID, CLEAN_SHARED, CLEAN_UNIQUE, EVICT, MAKE_INVALID, MAKE_UNIQUE, NO_OPCODE,
+    READ_CLEAN, READ_NOT_SHARED_DIRTY, READ_ONCE, READ_SHARED, READ_UNIQUE, SNP_CLEAN,
+    SNP_CLEAN_INVALID, SNP_CLEAN_SHARED, SNP_MAKE_INVALID, SNP_NOT_SHARED_DIRTY, SNP_ONCE,
+    SNP_SHARED, SNP_UNIQUE, WRITE_BACK_FULL, WRITE_CLEAN_FULL, WRITE_EVICT_FULL, WRITE_UNIQUE_FULL,
+};
 use chi_flit::{Data, NO_DATA};
 use chi_observe::{
     Account, Aside, CacheLine, CreditTypes, FaultFacts, IdKey, IdReason, Judged, LineReason,
@@ -170,7 +176,7 @@ impl ChiOpenId {
         home: 0,
         id: 0,
         form: 0,
-        opcode: 0,
+        opcode: NO_OPCODE,
         is_open: 0,
         lacks: 0,
         waits: 0,
@@ -607,21 +613,21 @@ fn kind_number(kind: Kind) -> u8
     ensures { result ≡ kind_number kind }
 {
     match kind {
-        Kind::ReadNotSharedDirty => 1,
-        Kind::ReadShared => 2,
-        Kind::ReadClean => 3,
-        Kind::ReadOnce => 4,
-        Kind::ReadUnique => 5,
-        Kind::CleanUnique => 6,
-        Kind::MakeUnique => 7,
-        Kind::CleanShared => 8,
-        Kind::CleanInvalid => 9,
-        Kind::MakeInvalid => 10,
-        Kind::Evict => 11,
-        Kind::WriteBackFull => 12,
-        Kind::WriteCleanFull => 13,
-        Kind::WriteEvictFull => 14,
-        Kind::WriteUniqueFull => 15,
+        Kind::ReadNotSharedDirty => READ_NOT_SHARED_DIRTY,
+        Kind::ReadShared => READ_SHARED,
+        Kind::ReadClean => READ_CLEAN,
+        Kind::ReadOnce => READ_ONCE,
+        Kind::ReadUnique => READ_UNIQUE,
+        Kind::CleanUnique => CLEAN_UNIQUE,
+        Kind::MakeUnique => MAKE_UNIQUE,
+        Kind::CleanShared => CLEAN_SHARED,
+        Kind::CleanInvalid => CLEAN_INVALID,
+        Kind::MakeInvalid => MAKE_INVALID,
+        Kind::Evict => EVICT,
+        Kind::WriteBackFull => WRITE_BACK_FULL,
+        Kind::WriteCleanFull => WRITE_CLEAN_FULL,
+        Kind::WriteEvictFull => WRITE_EVICT_FULL,
+        Kind::WriteUniqueFull => WRITE_UNIQUE_FULL,
     }
 }
 
@@ -630,14 +636,14 @@ fn snoop_number(snoop: Snoop) -> u8
     ensures { result ≡ snoop_number snoop }
 {
     match snoop {
-        Snoop::SnpOnce => 17,
-        Snoop::SnpClean => 18,
-        Snoop::SnpShared => 19,
-        Snoop::SnpNotSharedDirty => 20,
-        Snoop::SnpCleanShared => 21,
-        Snoop::SnpUnique => 22,
-        Snoop::SnpCleanInvalid => 23,
-        Snoop::SnpMakeInvalid => 24,
+        Snoop::SnpOnce => SNP_ONCE,
+        Snoop::SnpClean => SNP_CLEAN,
+        Snoop::SnpShared => SNP_SHARED,
+        Snoop::SnpNotSharedDirty => SNP_NOT_SHARED_DIRTY,
+        Snoop::SnpCleanShared => SNP_CLEAN_SHARED,
+        Snoop::SnpUnique => SNP_UNIQUE,
+        Snoop::SnpCleanInvalid => SNP_CLEAN_INVALID,
+        Snoop::SnpMakeInvalid => SNP_MAKE_INVALID,
     }
 }
 
@@ -648,7 +654,7 @@ fn purpose_number(purpose: Purpose) -> u8
     match purpose {
         Purpose::Request { kind, first: _ } => kind_number(kind),
         Purpose::Snoop(snoop) => snoop_number(snoop),
-        Purpose::Unknown { first: _ } => 0,
+        Purpose::Unknown { first: _ } => NO_OPCODE,
     }
 }
 

@@ -3,6 +3,15 @@
 ghost use Rattle.std.specs.Prelude.{◌≡◌, ◌<◌};
 ghost use Rattle.chi_library.specs.SeenFlits.{address_named, answer_flit, asking_flit, beat_at, buffer_flit, completion_flit, completion_of, data_at, data_of, dbid_named, flit_at, grant_flit, is_data, is_request, is_response, is_snoop, is_there, kind_flit, other_asking_flit, other_at, other_kind_flit, pcrd_at, profile_if, read_of, request_at, request_fields_at, request_fields_of, request_flit, resp_at, response_at, retry_flit, return_flit, seen_of, snoop_fields_at, snoop_flit, transaction_at, word_at, words_there};
 
+use crate::opcodes::{
+    CLEAN_INVALID, CLEAN_SHARED, CLEAN_UNIQUE, COMP, COMP_ACK, COMP_DATA, COMP_DBID_RESP,
+    COPY_BACK_WR_DATA, EVICT, LOAD, MAKE_INVALID, MAKE_UNIQUE, NON_COPY_BACK_WR_DATA, OTHER_ANSWER,
+    OTHER_REPLY, OTHER_REQUEST, OTHER_SNOOP, PCRD_GRANT, PCRD_RETURN, READ_CLEAN,
+    READ_NOT_SHARED_DIRTY, READ_ONCE, READ_SHARED, READ_UNIQUE, RETRY_ACK, SNP_CLEAN,
+    SNP_CLEAN_INVALID, SNP_CLEAN_SHARED, SNP_MAKE_INVALID, SNP_NOT_SHARED_DIRTY, SNP_ONCE,
+    SNP_RESP, SNP_RESP_DATA, SNP_SHARED, SNP_UNIQUE, STORE, WRITE_BACK_FULL, WRITE_CLEAN_FULL,
+    WRITE_EVICT_FULL, WRITE_UNIQUE_FULL,
+};
 use chi_flit::{Data, Kind, Snoop};
 use chi_trace::{
     Address, AnyFlit, AnySeen, Beat, DbId, Flit, NodeId, OtherKind, OtherSnoop, PcrdType,
@@ -209,22 +218,22 @@ fn request_flit(opcode: u8, fields: RequestFields) -> Option<AnyFlit>
     ensures { result ≡ request_flit opcode fields }
 {
     match opcode {
-        1 => Some(kind_flit(Kind::ReadNotSharedDirty, fields)),
-        2 => Some(kind_flit(Kind::ReadShared, fields)),
-        3 => Some(other_kind_flit(OtherKind::ReadClean, fields)),
-        4 => Some(other_kind_flit(OtherKind::ReadOnce, fields)),
-        5 => Some(kind_flit(Kind::ReadUnique, fields)),
-        6 => Some(kind_flit(Kind::CleanUnique, fields)),
-        7 => Some(other_kind_flit(OtherKind::MakeUnique, fields)),
-        8 => Some(other_kind_flit(OtherKind::CleanShared, fields)),
-        9 => Some(other_kind_flit(OtherKind::CleanInvalid, fields)),
-        10 => Some(other_kind_flit(OtherKind::MakeInvalid, fields)),
-        11 => Some(kind_flit(Kind::Evict, fields)),
-        12 => Some(kind_flit(Kind::WriteBackFull, fields)),
-        13 => Some(kind_flit(Kind::WriteCleanFull, fields)),
-        14 => Some(kind_flit(Kind::WriteEvictFull, fields)),
-        15 => Some(other_kind_flit(OtherKind::WriteUniqueFull, fields)),
-        37 => Some(AnyFlit::UnknownRequest(fields)),
+        READ_NOT_SHARED_DIRTY => Some(kind_flit(Kind::ReadNotSharedDirty, fields)),
+        READ_SHARED => Some(kind_flit(Kind::ReadShared, fields)),
+        READ_CLEAN => Some(other_kind_flit(OtherKind::ReadClean, fields)),
+        READ_ONCE => Some(other_kind_flit(OtherKind::ReadOnce, fields)),
+        READ_UNIQUE => Some(kind_flit(Kind::ReadUnique, fields)),
+        CLEAN_UNIQUE => Some(kind_flit(Kind::CleanUnique, fields)),
+        MAKE_UNIQUE => Some(other_kind_flit(OtherKind::MakeUnique, fields)),
+        CLEAN_SHARED => Some(other_kind_flit(OtherKind::CleanShared, fields)),
+        CLEAN_INVALID => Some(other_kind_flit(OtherKind::CleanInvalid, fields)),
+        MAKE_INVALID => Some(other_kind_flit(OtherKind::MakeInvalid, fields)),
+        EVICT => Some(kind_flit(Kind::Evict, fields)),
+        WRITE_BACK_FULL => Some(kind_flit(Kind::WriteBackFull, fields)),
+        WRITE_CLEAN_FULL => Some(kind_flit(Kind::WriteCleanFull, fields)),
+        WRITE_EVICT_FULL => Some(kind_flit(Kind::WriteEvictFull, fields)),
+        WRITE_UNIQUE_FULL => Some(other_kind_flit(OtherKind::WriteUniqueFull, fields)),
+        OTHER_REQUEST => Some(AnyFlit::UnknownRequest(fields)),
         _ => None,
     }
 }
@@ -260,15 +269,15 @@ fn snoop_flit(opcode: u8, fields: SnoopFields) -> Option<AnyFlit>
     ensures { result ≡ snoop_flit opcode fields }
 {
     match opcode {
-        17 => Some(other_asking_flit(OtherSnoop::SnpOnce, fields)),
-        18 => Some(other_asking_flit(OtherSnoop::SnpClean, fields)),
-        19 => Some(asking_flit(Snoop::SnpShared, fields)),
-        20 => Some(asking_flit(Snoop::SnpNotSharedDirty, fields)),
-        21 => Some(other_asking_flit(OtherSnoop::SnpCleanShared, fields)),
-        22 => Some(asking_flit(Snoop::SnpUnique, fields)),
-        23 => Some(asking_flit(Snoop::SnpCleanInvalid, fields)),
-        24 => Some(other_asking_flit(OtherSnoop::SnpMakeInvalid, fields)),
-        38 => Some(AnyFlit::UnknownSnoop(fields)),
+        SNP_ONCE => Some(other_asking_flit(OtherSnoop::SnpOnce, fields)),
+        SNP_CLEAN => Some(other_asking_flit(OtherSnoop::SnpClean, fields)),
+        SNP_SHARED => Some(asking_flit(Snoop::SnpShared, fields)),
+        SNP_NOT_SHARED_DIRTY => Some(asking_flit(Snoop::SnpNotSharedDirty, fields)),
+        SNP_CLEAN_SHARED => Some(other_asking_flit(OtherSnoop::SnpCleanShared, fields)),
+        SNP_UNIQUE => Some(asking_flit(Snoop::SnpUnique, fields)),
+        SNP_CLEAN_INVALID => Some(asking_flit(Snoop::SnpCleanInvalid, fields)),
+        SNP_MAKE_INVALID => Some(other_asking_flit(OtherSnoop::SnpMakeInvalid, fields)),
+        OTHER_SNOOP => Some(AnyFlit::UnknownSnoop(fields)),
         _ => None,
     }
 }
@@ -372,18 +381,18 @@ fn data_of(seen: &ChiSeen, resp: Resp, beat: Beat) -> Option<AnyFlit>
 {
     let transaction = transaction_at(seen);
     match seen.opcode {
-        31 => Some(read_of(resp, dbid_named(seen), transaction, beat)),
-        32 => Some(AnyFlit::Profile(Flit::SnpRespData {
+        COMP_DATA => Some(read_of(resp, dbid_named(seen), transaction, beat)),
+        SNP_RESP_DATA => Some(AnyFlit::Profile(Flit::SnpRespData {
             resp,
             transaction,
             beat,
         })),
-        33 => Some(AnyFlit::Profile(Flit::CopyBackWrData {
+        COPY_BACK_WR_DATA => Some(AnyFlit::Profile(Flit::CopyBackWrData {
             resp,
             transaction,
             beat,
         })),
-        34 => Some(AnyFlit::NonCopyBackWrData {
+        NON_COPY_BACK_WR_DATA => Some(AnyFlit::NonCopyBackWrData {
             resp,
             transaction,
             beat,
@@ -416,13 +425,13 @@ fn response_at(seen: &ChiSeen) -> Option<AnyFlit>
     ensures { result ≡ response_at seen.now }
 {
     match seen.opcode {
-        16 => profile_if(return_flit(seen)),
-        25 => profile_if(retry_flit(seen)),
-        26 => completion_flit(seen),
-        27 => profile_if(buffer_flit(seen)),
-        28 => profile_if(grant_flit(seen)),
-        29 => profile_if(answer_flit(seen)),
-        30 => Some(AnyFlit::Profile(Flit::CompAck {
+        PCRD_RETURN => profile_if(return_flit(seen)),
+        RETRY_ACK => profile_if(retry_flit(seen)),
+        COMP => completion_flit(seen),
+        COMP_DBID_RESP => profile_if(buffer_flit(seen)),
+        PCRD_GRANT => profile_if(grant_flit(seen)),
+        SNP_RESP => profile_if(answer_flit(seen)),
+        COMP_ACK => Some(AnyFlit::Profile(Flit::CompAck {
             transaction: transaction_at(seen),
         })),
         _ => None,
@@ -435,10 +444,10 @@ fn other_at(seen: &ChiSeen) -> Option<AnyFlit>
 {
     let (address, value) = (Address(seen.address), seen.words[0]);
     match seen.opcode {
-        35 => Some(AnyFlit::Profile(Flit::Load { address, value })),
-        36 => Some(AnyFlit::Profile(Flit::Store { address, value })),
-        39 => Some(AnyFlit::UnknownAnswer(transaction_at(seen))),
-        40 => Some(AnyFlit::UnknownReply(transaction_at(seen), dbid_named(seen))),
+        LOAD => Some(AnyFlit::Profile(Flit::Load { address, value })),
+        STORE => Some(AnyFlit::Profile(Flit::Store { address, value })),
+        OTHER_ANSWER => Some(AnyFlit::UnknownAnswer(transaction_at(seen))),
+        OTHER_REPLY => Some(AnyFlit::UnknownReply(transaction_at(seen), dbid_named(seen))),
         _ => None,
     }
 }
@@ -447,28 +456,28 @@ fn other_at(seen: &ChiSeen) -> Option<AnyFlit>
 fn is_request(opcode: u8) -> bool
     ensures { result ≡ is_request opcode }
 {
-    (1 <= opcode && opcode <= 15) || opcode == 37
+    (READ_NOT_SHARED_DIRTY <= opcode && opcode <= WRITE_UNIQUE_FULL) || opcode == OTHER_REQUEST
 }
 
 /// Whether it is a snoop's opcode.
 fn is_snoop(opcode: u8) -> bool
     ensures { result ≡ is_snoop opcode }
 {
-    (17 <= opcode && opcode <= 24) || opcode == 38
+    (SNP_ONCE <= opcode && opcode <= SNP_MAKE_INVALID) || opcode == OTHER_SNOOP
 }
 
 /// Whether it is the opcode of a response that has no data, or of a credit.
 fn is_response(opcode: u8) -> bool
     ensures { result ≡ is_response opcode }
 {
-    opcode == 16 || (25 <= opcode && opcode <= 30)
+    opcode == PCRD_RETURN || (RETRY_ACK <= opcode && opcode <= COMP_ACK)
 }
 
 /// Whether it is an opcode of data.
 fn is_data(opcode: u8) -> bool
     ensures { result ≡ is_data opcode }
 {
-    31 <= opcode && opcode <= 34
+    COMP_DATA <= opcode && opcode <= NON_COPY_BACK_WR_DATA
 }
 
 /// The flit that C's numbers name; `None` where they name none.

@@ -1,17 +1,18 @@
 //! The flits that a step took and sent, told straight out of their cells, in C's words.
 
-ghost use Rattle.std.specs.Prelude.{◌≡◌, ◌∷◌, [], ◌==◌, if◌then◌else◌, map};
+ghost use Rattle.std.specs.Prelude.{◌≡◌, ◌∷◌, [], map};
 ghost use Rattle.chi_flit.specs.Kind.{snoop_of};
 ghost use Rattle.chi_flit.specs.declared.message.Msg.TheVariants as messages;
 ghost use Rattle.chi_slice.specs.Words.{completion_message, answer_in, cell_of, flit, flit_of, snoop_flits};
 ghost use Rattle.chi_library.specs.Flits.{no_sent, sent_told};
 ghost use Rattle.chi_library.specs.Listed.{IsListed};
-ghost use Rattle.chi_library.specs.Standing.{ack_standing, cell_standing, completion_standing, down_on, first_request, message_on, read_data, snoops_standing, start_standing, told_or, up_on, words_due};
+ghost use Rattle.chi_library.specs.Standing.{ack_due, ack_standing, cell_standing, completion_standing, down_on, first_request, message_on, read_data, snoops_standing, start_standing, told_or, up_on, words_due};
 ghost use Rattle.chi_library.specs.Taken.{answer_message, message_taken};
 
 use crate::flits::{
     ChiFlit, ChiSent, put_cell, tell_dat_down, tell_req, tell_rsp_down, tell_rsp_up, tell_snoop,
 };
+use crate::messages::{COMP_UC, SNP_RESP_DATA_SD};
 use chi_flit::{Agent, Channel, DatUp, Data, Kind, Request, RspDown, RspUp, Slot, Snoop, Step};
 use chi_slice::{Cells, HomeLine, Serving};
 
@@ -108,10 +109,9 @@ pub(crate) fn list_ack(agent: Agent, sent: &mut [ChiSent; 8]) -> u8
 
 /// Lists the CompAck that a completion is answered by, if it is.
 pub(crate) fn list_ack_of(agent: Agent, message: u8, sent: &mut [ChiSent; 8]) -> u8
-    ensures { IsListed (map sent_told (if message == 7 then ack_standing agent else []))
-        sent.old sent.new result }
+    ensures { IsListed (map sent_told (ack_due agent message)) sent.old sent.new result }
 {
-    if message == 7 {
+    if message == COMP_UC {
         list_ack(agent, sent)
     } else {
         0
@@ -187,7 +187,7 @@ pub(crate) fn list_answered(
 fn words_due(taken: &ChiFlit, memory: Data) -> Data
     ensures { result ≡ words_due taken.now memory }
 {
-    if taken.message == 17 {
+    if taken.message == SNP_RESP_DATA_SD {
         taken.words
     } else {
         memory

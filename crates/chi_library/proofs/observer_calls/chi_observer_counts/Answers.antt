@@ -1,5 +1,5 @@
 -- Those of what the handle holds.
-use Rattle.std.proofs.Common.{◌≡◌, Option, sym, ap, ◌∙◌}
+use Rattle.std.proofs.Common.{Option, sym, ap, ◌∙◌}
 use Rattle.std.specs.Global.{Global}
 use Rattle.chi_observe.specs.declared.benches.BenchWatch.{BenchWatch}
 use Rattle.chi_library.specs.Calls.{output_of}
