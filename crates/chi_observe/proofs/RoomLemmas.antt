@@ -102,10 +102,12 @@ module _ {K V : Type 0} where
         here : (c : Bool) → number_of (is_none (cond c (Some v) (lookup t es))) ≤ number_of (is_none (cond c (Some e.1) (lookup t es)))
         here true = omega arith
         here false = omega arith
+
         behind : (c : Bool) → lacks t (insert_entry eq es k v) ≤ lacks t es
             → number_of (is_none (cond c (Some e.1) (lookup t (insert_entry eq es k v)))) ≤ number_of (is_none (cond c (Some e.1) (lookup t es)))
         behind true h = omega arith
         behind false h = h
+
         by : (b : Bool) → lacks t (insert_entry eq es k v) ≤ lacks t es → lacks t (cond b ((e.0, v) ∷ es) (e ∷ insert_entry eq es k v)) ≤ lacks t (e ∷ es)
         by true h = here (t e.0)
         by false h = behind (t e.0) h
@@ -117,6 +119,7 @@ module _ {K V : Type 0} where
         behind : (c : Bool) → lacks u (insert_entry eq es k v) ≡ 0 → number_of (is_none (cond c (Some e.1) (lookup u (insert_entry eq es k v)))) ≡ 0
         behind true h = refl
         behind false h = h
+
         by : (b : Bool) → eq k e.0 ≡ b → lacks u (insert_entry eq es k v) ≡ 0 → lacks u (cond b ((e.0, v) ∷ es) (e ∷ insert_entry eq es k v)) ≡ 0
         by true p h = ap (λ (c : Bool). number_of (is_none (cond c (Some v) (lookup u es)))) (agree e.0 p)
         by false p h = behind (u e.0) h
@@ -266,6 +269,7 @@ booked_within booking accounts most le room = by (is_account_new booking account
   where
     more : length (booked booking accounts) ≡ length accounts + number_of (is_account_new booking accounts)
     more = length-insert_entry is_same_account (account_numbers booking.account.sides booking.account.pcrd) (with_event booking.event booking.account) accounts
+
     by : (b : Bool) → is_account_new booking accounts ≡ b → has_room b (length accounts) most ≡ true → length (booked booking accounts) ≤ most
     by true p h = omega (arith, more, ap number_of p, ltb-true (length accounts) most h)
     by false p h = omega (arith, more, ap number_of p, le)
@@ -372,6 +376,7 @@ module _ (room : Room) (w w' : Watched) (h : IsWithin room w) where
         accounts = h.accounts;
         lines = subst (λ (n : ℕ). n ≤ room.lines) (sym (access_lines _ w.counts)) h.lines;
       }
+
       by : (b : Bool) → cond b (Some (access_next w e home)) None ≡ Some w' → IsWithin room w'
       by true p = subst (IsWithin room) (same_some _ _ p) next
       by false p = none_isn't w' p
