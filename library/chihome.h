@@ -17,7 +17,7 @@
  * handle, which is not touched; and an opening of an open handle CHI_AlreadyOpen, which stays. Where a call is not
  * done, all numbers of what it tells are 0, so also such a count; but what tells a length of bytes tells it too where
  * there is not room for them. The openings take memory, chi_slice_load, chi_slice_save, chi_slice_copy, chi_node_slice,
- * chi_observer_text, and a monitor's calls.
+ * chi_observer_copy, chi_observer_text, and a monitor's calls.
  */
 #ifndef CHIHOME_H
 #define CHIHOME_H
@@ -587,6 +587,12 @@ uint8_t chi_monitor_explain(ChiMonitor *monitor, uint8_t line);
 /* Closes the handle, and frees the monitor. */
 uint8_t chi_monitor_close(ChiMonitor *monitor);
 
+/* Whether stores may be done that an observer isn't given (docs/OBSERVER.md, "Stores that are listed"). */
+enum ChiStores {
+    CHI_Stores_Hidden = 0,
+    CHI_Stores_Listed = 1 /* none: each is given as CHI_Op_Store */
+};
+
 /* What an observer is opened for. It takes all memory then: a flit that would add more is answered CHI_Full. */
 typedef struct {
     uint32_t lines;       /* of memory that flits touch, 1 to 16,777,216 */
@@ -596,6 +602,8 @@ typedef struct {
     uint8_t homes;        /* 1 to 255 */
     uint8_t types;        /* of credits: 2 or 4, each with its kinds of request, or 0, any with any kind */
     uint8_t early_grants; /* 1 where monitors stand at the requesters, which may see a grant before its RetryAck; else 0 */
+    uint8_t stores;       /* ChiStores */
+    uint8_t reserved[3];
 } ChiObserverConfig;
 
 /* A flit, whole, as a monitor sees it, or a load or a store of a processor. Fields that its opcode hasn't may hold anything:
@@ -710,7 +718,7 @@ typedef struct {
 
 /* Opens an observer for so much, that has seen no flit. It takes all memory that it ever needs, but for what
  * chi_observer_text has meanwhile. CHI_AlreadyOpen of an open handle; CHI_OutOfRange where a size is outside its limits, or
- * `types` or `early_grants` is none of theirs; CHI_NoMemory. */
+ * `types`, `early_grants` or `stores` is none of theirs; CHI_NoMemory. */
 uint8_t chi_observer_open(ChiObserver *observer, const ChiObserverConfig *config);
 
 /* Takes the next flit, in the order in which senders put them on their ports, without an end:
@@ -743,6 +751,16 @@ uint8_t chi_observer_opened(ChiObserver *observer, uint32_t place, ChiOpenId *id
 
 /* Tells the account of a place among those that it holds, from 0. CHI_OutOfRange behind their end. */
 uint8_t chi_observer_account(ChiObserver *observer, uint32_t place, ChiAccount *account);
+
+/* Copies the observer of `from`: `to` holds an observer that is the same, which takes its own memory, and what `to` held before
+ * is closed. `from` stays, and each goes on by itself. CHI_NoMemory, and CHI_Closed where `from` is closed: `to` is then
+ * as it was. */
+uint8_t chi_observer_copy(ChiObserver *to, ChiObserver *from);
+
+/* Tells whether two observers are the same: 1 where they were opened for the same, their flits have told the same of each line,
+ * by flits with the same numbers, ids and accounts are held in the same places, and the first fault is the same; else 0.
+ * Nothing is done. CHI_Closed where one of them is closed. */
+uint8_t chi_observer_equal(ChiObserver *one, ChiObserver *other, uint8_t *equal);
 
 /* Closes the handle, and frees the observer. */
 uint8_t chi_observer_close(ChiObserver *observer);
@@ -793,7 +811,8 @@ CHI_LAYOUT(sizeof(ChiAudit) == 24 && offsetof(ChiAudit, coherent) == 16);
 CHI_LAYOUT(sizeof(ChiFault) == 176 && offsetof(ChiFault, number) == 8 && offsetof(ChiFault, since) == 16);
 CHI_LAYOUT(offsetof(ChiFault, differs) == 24 && offsetof(ChiFault, expected) == 32 && offsetof(ChiFault, sent) == 96);
 CHI_LAYOUT(sizeof(ChiOpen) == 5 && offsetof(ChiOpen, snoop) == 2 && offsetof(ChiOpen, write_data) == 4);
-CHI_LAYOUT(sizeof(ChiObserver) == 8 && sizeof(ChiObserverConfig) == 16 && offsetof(ChiObserverConfig, requesters) == 12);
+CHI_LAYOUT(sizeof(ChiObserver) == 8 && sizeof(ChiObserverConfig) == 20 && offsetof(ChiObserverConfig, requesters) == 12);
+CHI_LAYOUT(offsetof(ChiObserverConfig, stores) == 16);
 CHI_LAYOUT(sizeof(ChiSeen) == 96 && offsetof(ChiSeen, words) == 16 && offsetof(ChiSeen, source) == 80);
 CHI_LAYOUT(offsetof(ChiSeen, opcode) == 88 && offsetof(ChiSeen, mask) == 94);
 CHI_LAYOUT(sizeof(ChiObserverFault) == 104 && offsetof(ChiObserverFault, expected) == 24);

@@ -235,6 +235,9 @@ enum class IdForm : std::uint8_t {
     Retried = CHI_Id_Retried
 };
 
+/* Whether stores may be done that an observer isn't given (docs/OBSERVER.md, "Stores that are listed"). */
+enum class Stores : std::uint8_t { Hidden = CHI_Stores_Hidden, Listed = CHI_Stores_Listed };
+
 /* Why an observer doesn't take a flit (docs/OBSERVER.md, "Faults" and "Ids and credits"). */
 enum class ObserverReason : std::uint8_t {
     None = CHI_Fault_None,
@@ -396,7 +399,8 @@ struct Open {
 
 /* What an observer is opened for: so many lines of memory that flits touch, ids that are open at once, accounts of credits,
  * requesters and homes. Of credits there are 2 or 4 types, each with its kinds of request, or, as 0, any with any kind; with
- * early grants monitors stand at the requesters, which may see a grant before its RetryAck. */
+ * early grants monitors stand at the requesters, which may see a grant before its RetryAck. Where stores are listed each is
+ * given. */
 struct ObserverConfig {
     std::uint32_t lines = 1024;
     std::uint32_t ids = 1024;
@@ -405,6 +409,7 @@ struct ObserverConfig {
     std::uint8_t homes = 1;
     std::uint8_t types = 0;
     bool early_grants = false;
+    Stores stores = Stores::Hidden;
 };
 
 /* A flit, whole, as a monitor sees it, or a load or a store of a processor. Fields that its opcode hasn't may hold anything
@@ -759,7 +764,8 @@ inline Release release(const ChiRelease &from) {
 }
 
 inline ChiObserverConfig config(const ObserverConfig &from) {
-    return {from.lines, from.ids, from.accounts, from.requesters, from.homes, from.types, from.early_grants};
+    return {from.lines, from.ids, from.accounts, from.requesters, from.homes, from.types, from.early_grants,
+            layout::number(from.stores), {}};
 }
 
 inline ChiSeen seen(const Seen &from, std::uint64_t number) {
@@ -1278,6 +1284,24 @@ class Observer {
         return layout::outcome(answer, layout::account(told));
     }
 
+    /* An observer that is the same, in memory of its own: each goes on by itself. NoMemory. */
+    Outcome<Observer> copy() const {
+        Observer copied;
+        const std::uint8_t answer = chi_observer_copy(&copied.handle_, &handle_);
+        copied.last_ = answer == CHI_OK ? last_ : 0;
+        return layout::outcome(answer, std::move(copied));
+    }
+
+    /* Whether the observers are the same: what they were opened for, what their flits have told and by which numbers, the
+     * places of ids and accounts, and the first fault. Two closed ones are, and a closed one is the same as no open one. */
+    friend bool operator==(const Observer &one, const Observer &other) noexcept {
+        if (&one == &other || !one.is_open() || !other.is_open()) return one.is_open() == other.is_open();
+        std::uint8_t equal = 0;
+        chi_observer_equal(&one.handle_, &other.handle_, &equal);
+        return equal != 0;
+    }
+    friend bool operator!=(const Observer &one, const Observer &other) noexcept { return !(one == other); }
+
     bool is_open() const { return handle_.at != nullptr; }
 
     /* Frees what is open. Closed where nothing is. */
@@ -1287,7 +1311,7 @@ class Observer {
     }
 
   private:
-    ChiObserver handle_ = {nullptr};
+    mutable ChiObserver handle_ = {nullptr}; /* a copy and == leave it as it is, and may write it meanwhile */
     std::uint64_t last_ = 0; /* the number of the last flit that was taken */
 };
 

@@ -301,6 +301,13 @@ class ObserverReason(enum.IntEnum):
     Other = 24
 
 
+class Stores(enum.IntEnum):
+    """Whether stores may be done that an observer isn't given (docs/OBSERVER.md, "Stores that are listed")."""
+
+    Hidden = 0
+    Listed = 1
+
+
 class EffectForm(enum.IntEnum):
     """What an action gives."""
 
@@ -587,7 +594,7 @@ class _ChiMonitor(ctypes.Structure):
 
 class _ChiObserverConfig(ctypes.Structure):
     _fields_ = [(it, c_uint32) for it in ("lines", "ids", "accounts")] + [
-        (it, c_uint8) for it in ("requesters", "homes", "types", "early_grants")]
+        (it, c_uint8) for it in ("requesters", "homes", "types", "early_grants", "stores")] + [("reserved", c_uint8 * 3)]
 
 
 class _ChiSeen(ctypes.Structure):
@@ -675,6 +682,8 @@ _CALLS = {
     "chi_observer_counts": (c_uint8, [_observer, POINTER(_ChiObserverCounts)]),
     "chi_observer_opened": (c_uint8, [_observer, c_uint32, POINTER(_ChiOpenId)]),
     "chi_observer_account": (c_uint8, [_observer, c_uint32, POINTER(_ChiAccount)]),
+    "chi_observer_copy": (c_uint8, [_observer, _observer]),
+    "chi_observer_equal": (c_uint8, [_observer, _observer, _count]),
     "chi_observer_close": (c_uint8, [_observer]),
     "chi_version": (c_char_p, []),
     "chi_step_name": (c_char_p, [c_uint8]),
@@ -849,6 +858,7 @@ class ObserverConfig(NamedTuple):
     homes: int = 1
     types: int = 0
     early_grants: bool = False
+    stores: Stores = Stores.Hidden
 
 
 class Seen(NamedTuple):
@@ -1517,12 +1527,12 @@ class Observer(_Handle):
 
     It is for so many lines of memory that flits touch, ids that are open at once, accounts of credits, requesters and homes.
     Of credits there are 2 or 4 `types`, each with its kinds of request, or, as 0, any with any kind; with `early_grants`
-    monitors stand at the requesters, which may see a grant before its RetryAck. OutOfRange where a size is outside its
-    limits; NoMemory."""
+    monitors stand at the requesters, which may see a grant before its RetryAck; where `stores` are listed, each is given.
+    OutOfRange where a size is outside its limits; NoMemory."""
 
     def __init__(self, lines: int = 1024, ids: int = 1024, accounts: int = 256, requesters: int = 32, homes: int = 1,
-                 types: int = 0, early_grants: bool = False):
-        config = ObserverConfig(lines, ids, accounts, requesters, homes, types, early_grants)
+                 types: int = 0, early_grants: bool = False, stores: Stores = Stores.Hidden):
+        config = ObserverConfig(lines, ids, accounts, requesters, homes, types, early_grants, stores)
         super().__init__(_ChiObserver(), config)
         self._last = 0
         sizes = [_within(it, 0xFFFFFFFF) for it in config[:3]] + [_byte(it) for it in config[3:]]
@@ -1532,6 +1542,25 @@ class Observer(_Handle):
 
     def _close(self) -> int:
         return self._calls.chi_observer_close(byref(self._handle))
+
+    def copy(self) -> Observer:
+        """An observer that is the same, in memory of its own: each goes on by itself. NoMemory."""
+        copied = Observer.__new__(Observer)
+        _Handle.__init__(copied, _ChiObserver(), self.config)
+        copied._last = self._last
+        _check(self._calls.chi_observer_copy(byref(copied._handle), byref(self._handle)))
+        return copied
+
+    def __eq__(self, other: object) -> bool:
+        """Whether the observers are the same: what they were opened for, what their flits have told and by which numbers, the
+        places of ids and accounts, and the first fault. `Closed` where one of them is closed, but of an observer and itself."""
+        if not isinstance(other, Observer):
+            return NotImplemented
+        if self is other:
+            return True
+        equal = c_uint8()
+        _check(self._calls.chi_observer_equal(byref(self._handle), byref(other._handle), byref(equal)))
+        return bool(equal.value)
 
     def take(self, seen: Seen) -> bool:
         """Takes the next flit; False where its line is set aside, by it or before it, and so isn't judged.

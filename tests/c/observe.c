@@ -1,6 +1,6 @@
 /* Observes a trace by the library's calls, and prints what `chihome observe` prints of it, with its status.
  *
- *     observe FILE [--types two|four|any] [--early-grants] [--complete]
+ *     observe FILE [--types two|four|any] [--stores hidden|listed] [--early-grants] [--complete]
  */
 #include "chihome.h"
 #include "trace.h"
@@ -83,6 +83,7 @@ int main(int count, char **words) {
         config.early_grants |= strcmp(words[word], "--early-grants") == 0;
         if (strcmp(words[word], "two") == 0) config.types = 2;
         if (strcmp(words[word], "four") == 0) config.types = 4;
+        if (strcmp(words[word], "listed") == 0) config.stores = CHI_Stores_Listed;
     }
     FILE *file = count > 1 ? fopen(words[1], "r") : NULL;
     if (file == NULL || chi_observer_open(&observer, &config) != CHI_OK) return 2;

@@ -54,9 +54,9 @@ static void closed(void) {
 }
 
 static void openings(void) {
-    ChiObserverConfig wrong[14];
+    ChiObserverConfig wrong[16];
     ChiObserver observer = {0};
-    for (size_t place = 0; place < 14; place++) wrong[place] = SIZES;
+    for (size_t place = 0; place < 16; place++) wrong[place] = SIZES;
     wrong[0].lines = wrong[1].ids = wrong[2].accounts = 0;
     wrong[3].lines = wrong[4].ids = wrong[5].accounts = 16777217;
     wrong[6].requesters = wrong[7].homes = 0;
@@ -66,7 +66,9 @@ static void openings(void) {
     wrong[11].types = 5;
     wrong[12].early_grants = 2;
     wrong[13].lines = UINT32_MAX;
-    for (size_t place = 0; place < 14; place++)
+    wrong[14].stores = 2;
+    wrong[15].stores = 255;
+    for (size_t place = 0; place < 16; place++)
         HOLDS(chi_observer_open(&observer, &wrong[place]) == CHI_OutOfRange && observer.at == NULL);
     opened_for(&observer, SIZES);
     void *at = observer.at;
@@ -235,6 +237,27 @@ static void faults(void) {
     HOLDS(fault.since == 1 && fault.line == 0x1040);
 }
 
+/* A clean copy whose owner answers with dirty data has stored before, unseen: where stores are listed it hasn't. */
+static void stores(void) {
+    static const char *const READ[] = {"REQ 8 40 1 ReadUnique 1040 - - 1 - -", "DAT 40 8 1 CompData - UC 11 - - 0,0,0,0,0,0,0,0",
+        "RSP 8 40 11 CompAck - - - - - -", "REQ 9 40 1 ReadUnique 1040 - - 1 - -", NULL};
+    static const char *const SNOOP = "SNP 40 8 5 SnpUnique 1040 - - - - -", *const STORE = "CPU 8 - - Store 1048 - - - - 7";
+    static const char *const DIRTY = "DAT 8 40 5 SnpRespData - I_PD - - - 0,7,0,0,0,0,0,0";
+    for (uint8_t listed = CHI_Stores_Hidden; listed <= CHI_Stores_Listed; listed++)
+        for (int told = 0; told < 2; told++) {
+            ChiObserverConfig config = SIZES;
+            ChiObserver observer = {0};
+            ChiObserverFault fault;
+            int taken = listed == CHI_Stores_Hidden || told;
+            config.stores = listed;
+            opened_for(&observer, config);
+            HOLDS(take_all(&observer, READ) == CHI_OK && (!told || take(&observer, STORE) == CHI_OK));
+            HOLDS(take(&observer, SNOOP) == CHI_OK && take(&observer, DIRTY) == (taken ? CHI_OK : CHI_Fault));
+            HOLDS(chi_observer_fault(&observer, &fault) == CHI_OK);
+            HOLDS(fault.reason == (taken ? CHI_Fault_None : CHI_Fault_NotSent) && chi_observer_close(&observer) == CHI_OK);
+        }
+}
+
 /* A line with a flit that isn't judged is set aside, and other lines go on to be judged. */
 static void aside(void) {
     static const char *const LINES[] = {"REQ 8 40 1 ReadUnique 1040 - - 1 - -", "DAT 40 8 1 CompData - UC 11 - - 0,0,0,0,0,0,0,0",
@@ -253,6 +276,88 @@ static void aside(void) {
     HOLDS(chi_observer_close(&observer) == CHI_OK);
 }
 
+/* A copy is the same, and each goes on by itself: what one takes, the other hasn't; a fault and a line that is set aside are
+ * copied too. What the other handle held is closed, but stays where nothing is copied. */
+static void copies(void) {
+    static const char *const LINES[] = {"REQ 8 40 1 ReadUnique 1040 - - 1 - -", "REQ 8 40 2 ReadShared 10c0 - - 1 - -",
+        "RSP 40 8 2 RetryAck - - - - 0 -", "REQ 9 40 1 AtomicLoad 1080 - - 1 - -", NULL};
+    ChiObserver from = {0}, to = {0}, closed_one = {0};
+    ChiObserverCounts counts, copied;
+    ChiObserverFault fault;
+    ChiOpenId id;
+    HOLDS(chi_observer_copy(&to, &closed_one) == CHI_Closed && to.at == NULL && closed_one.at == NULL);
+    opened_for(&from, SIZES);
+    HOLDS(take_all(&from, LINES) == CHI_SetAside && chi_observer_counts(&from, &counts) == CHI_OK);
+    void *at = from.at;
+    HOLDS(chi_observer_copy(&from, &closed_one) == CHI_Closed && from.at == at);
+    HOLDS(chi_observer_open(&to, &SIZES) == CHI_OK && chi_observer_copy(&to, &from) == CHI_OK && from.at == at);
+    HOLDS(to.at != NULL && to.at != at && chi_observer_counts(&to, &copied) == CHI_OK);
+    HOLDS(memcmp(&counts, &copied, sizeof counts) == 0 && copied.aside == 1 && copied.retried == 1 && copied.requests == 1);
+    HOLDS(take(&to, "DAT 40 8 1 CompData - UC 11 - - 0,0,0,0,0,0,0,0") == CHI_OK);
+    HOLDS(take(&to, "DAT 40 8 1 CompData - UC 11 - - 0,0,0,0,0,0,0,0") == CHI_Fault);
+    HOLDS(chi_observer_opened(&from, 0, &id) == CHI_OK && id.form == CHI_Id_Request && id.since == 1);
+    HOLDS(chi_observer_fault(&from, &fault) == CHI_OK && fault.reason == 0);
+    HOLDS(chi_observer_copy(&from, &to) == CHI_OK && chi_observer_fault(&from, &fault) == CHI_OK);
+    HOLDS(fault.reason == CHI_Fault_NotOpen && chi_observer_close(&to) == CHI_OK);
+    HOLDS(chi_observer_fault(&from, &fault) == CHI_OK && fault.reason == CHI_Fault_NotOpen);
+    HOLDS(chi_observer_close(&from) == CHI_OK);
+}
+
+static int is_equal(ChiObserver *one, ChiObserver *other) {
+    uint8_t equal = 2, back = 2;
+    HOLDS(chi_observer_equal(one, other, &equal) == CHI_OK && chi_observer_equal(other, one, &back) == CHI_OK && equal == back);
+    return equal;
+}
+
+/* Two are the same where they were opened for the same and have been told the same by the same numbers; lines may come in any
+ * order, ids and accounts not. */
+static void equals(void) {
+    static const char *const LINES[] = {"REQ 8 40 1 ReadUnique 1040 - - 1 - -", "REQ 9 40 2 ReadShared 10c0 - - 1 - -",
+        "RSP 40 9 2 RetryAck - - - - 0 -", "DAT 40 8 1 CompData - UC 11 - - 0,1,2,3,4,5,6,7", NULL};
+    static const char *const DONE[] = {"REQ 8 40 1 CleanInvalid 1080 - - 1 - -", "RSP 40 8 1 Comp - I - - - -",
+        "REQ 8 40 1 CleanInvalid 1040 - - 1 - -", "RSP 40 8 1 Comp - I - - - -"};
+    ChiObserver one = {0}, other = {0}, closed_one = {0};
+    ChiObserverConfig wider = SIZES;
+    uint8_t equal = 2;
+    HOLDS(chi_observer_equal(&one, &closed_one, &equal) == CHI_Closed && equal == 0);
+    opened_for(&one, SIZES);
+    equal = 2;
+    HOLDS(chi_observer_equal(&one, &closed_one, &equal) == CHI_Closed && equal == 0);
+    equal = 2;
+    HOLDS(chi_observer_equal(&closed_one, &one, &equal) == CHI_Closed && equal == 0 && one.at != NULL && closed_one.at == NULL);
+    wider.ids++;
+    opened_for(&other, wider);
+    HOLDS(!is_equal(&one, &other) && chi_observer_close(&other) == CHI_OK);
+    wider = SIZES;
+    wider.stores = CHI_Stores_Listed;
+    opened_for(&other, wider);
+    HOLDS(!is_equal(&one, &other) && chi_observer_close(&other) == CHI_OK);
+    opened_for(&other, SIZES);
+    HOLDS(is_equal(&one, &other) && take_all(&one, LINES) == CHI_OK && !is_equal(&one, &other));
+    HOLDS(take_all(&other, LINES) == CHI_OK && is_equal(&one, &other));
+    /* a fault is part of it, and which flit it is of */
+    HOLDS(take(&one, LINES[0]) == CHI_Fault && !is_equal(&one, &other) && take(&other, LINES[0]) == CHI_Fault);
+    HOLDS(!is_equal(&one, &other) && chi_observer_copy(&other, &one) == CHI_OK && is_equal(&one, &other));
+    HOLDS(chi_observer_close(&one) == CHI_OK && chi_observer_close(&other) == CHI_OK);
+    /* the same flits of two lines, the one first and the other first, with their numbers */
+    opened_for(&one, SIZES);
+    opened_for(&other, SIZES);
+    for (size_t place = 0; place < 4; place++) {
+        number = place;
+        HOLDS(take(&one, DONE[place]) == CHI_OK);
+        number = place ^ 2;
+        HOLDS(take(&other, DONE[place ^ 2]) == CHI_OK && is_equal(&one, &other) == (place == 3));
+    }
+    /* two requests, the one first and the other first, with their numbers */
+    number = 8;
+    HOLDS(take(&one, LINES[0]) == CHI_OK && take(&one, LINES[1]) == CHI_OK);
+    number = 9;
+    HOLDS(take(&other, LINES[1]) == CHI_OK);
+    number = 8;
+    HOLDS(take(&other, LINES[0]) == CHI_OK && !is_equal(&one, &other));
+    HOLDS(chi_observer_close(&one) == CHI_OK && chi_observer_close(&other) == CHI_OK);
+}
+
 int main(void) {
     closed();
     openings();
@@ -261,6 +366,9 @@ int main(void) {
     told();
     forgotten();
     faults();
+    stores();
     aside();
+    copies();
+    equals();
     return failures == 0 ? 0 : 1;
 }

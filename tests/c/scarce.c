@@ -110,6 +110,38 @@ static int observer_allocations(void) {
     }
 }
 
+/* The observer that the other handle holds stays where its copy is refused, and is closed where it isn't; flits that a copy is
+ * given take no memory. */
+static int observer_copy_allocations(void) {
+    static const ChiObserverConfig ROOM = {.lines = 4, .ids = 4, .accounts = 4, .requesters = 2, .homes = 1};
+    static const ChiSeen REQUEST = {.opcode = CHI_Op_ReadShared, .number = 1, .source = 8, .target = 64, .allow_retry = 1};
+    ChiObserver from = {0};
+    ChiObserverCounts counts;
+    HOLDS(chi_observer_open(&from, &ROOM) == CHI_OK && chi_observer_take(&from, &REQUEST) == CHI_OK);
+    for (int count = 0;; count++) {
+        ChiObserver to = {0};
+        ChiSeen next = REQUEST;
+        HOLDS(chi_observer_open(&to, &ROOM) == CHI_OK);
+        void *at = to.at;
+        granted = count;
+        uint8_t answer = chi_observer_copy(&to, &from);
+        int spent = granted < 0, left = granted;
+        for (uint16_t line = 1; line < 4 && !spent; line++) {
+            next.number = next.txn = line + 1;
+            next.address = 64 * line;
+            HOLDS(chi_observer_take(&to, &next) == CHI_OK && granted == left);
+        }
+        granted = -1;
+        HOLDS(answer == (spent ? CHI_NoMemory : CHI_OK) && (to.at == at) == spent && from.at != NULL);
+        HOLDS(chi_observer_counts(&to, &counts) == CHI_OK && counts.lines == (spent ? 0 : 4));
+        HOLDS(chi_observer_counts(&from, &counts) == CHI_OK && counts.lines == 1);
+        HOLDS(chi_observer_close(&to) == CHI_OK);
+        if (spent) continue;
+        HOLDS(chi_observer_close(&from) == CHI_OK);
+        return count;
+    }
+}
+
 /* Gives a monitor a read, and asks for its explanation: with one allocation refused, what asked for it is answered so. */
 static int monitor_allocations(void) {
     static const ChiSent READ[] = {{.flit = {.message = CHI_Request, .kind = CHI_ReadUnique, .allow_retry = 1}},
@@ -322,6 +354,7 @@ int main(void) {
     int observer = observer_allocations();
     observer_without_memory();
     HOLDS(slice > 0 && node > slice && monitor > 0 && observer > 0 && copy_allocations() == slice);
+    HOLDS(observer_copy_allocations() > 0);
     slice_answers();
     copy_answers();
     saved_allocations();

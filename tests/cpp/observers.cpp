@@ -58,6 +58,9 @@ static void moves() {
     ObserverConfig wrong = sizes(8);
     wrong.types = 3;
     HOLDS(Observer::open(wrong).answer() == Answer::OutOfRange);
+    wrong = sizes(8);
+    wrong.stores = Stores(2);
+    HOLDS(Observer::open(wrong).answer() == Answer::OutOfRange);
     Observer observer = *Observer::open(sizes(8));
     HOLDS(take(observer, "REQ 8 40 1 ReadShared 1040 - - 1 - -") == Answer::OK);
     closed = std::move(observer);
@@ -66,6 +69,20 @@ static void moves() {
     Observer &same = closed;
     closed = std::move(same);
     HOLDS(closed.is_open() && closed.close() == Answer::OK && closed.close() == Answer::Closed);
+}
+
+static void copies() {
+    const Observer closed;
+    HOLDS(closed.copy().answer() == Answer::Closed);
+    Observer observer = *Observer::open(sizes(8));
+    HOLDS(take(observer, "REQ 8 40 1 ReadShared 1040 - - 1 - -") == Answer::OK);
+    Observer copy = *static_cast<const Observer &>(observer).copy();
+    HOLDS(copy.is_open() && observer.is_open() && copy.counts()->requests == 1);
+    HOLDS(copy == observer && observer == observer && copy != closed && closed == Observer());
+    HOLDS(take(copy, "DAT 40 8 1 CompData - SC 11 - - 1,2,3,4,5,6,7,8") == Answer::OK && copy.opened(0)->since == 2);
+    HOLDS(copy != observer && observer.counts()->requests == 1 && observer.opened(0)->form == IdForm::Request);
+    HOLDS(take(observer, "RSP 40 8 9 RetryAck - - - - 0 -") == Answer::Fault && (*observer.copy()->fault())->number == 2);
+    HOLDS(!*copy.fault() && copy.close() == Answer::OK);
 }
 
 static void answers() {
@@ -113,6 +130,21 @@ static void faults() {
     HOLDS(std::strcmp(name(Told::UCOrUCE), "UCOrUCE") == 0 && std::strcmp(name(Answer::Full), "Full") == 0);
 }
 
+/* Where stores are listed a clean copy has none. */
+static void stores() {
+    for (const Stores told : {Stores::Hidden, Stores::Listed}) {
+        ObserverConfig config = sizes(8);
+        config.stores = told;
+        Observer observer = *Observer::open(config);
+        for (const char *line : {"REQ 8 40 1 ReadUnique 1040 - - 1 - -", "DAT 40 8 1 CompData - UC 11 - - 0,0,0,0,0,0,0,0",
+                                 "RSP 8 40 11 CompAck - - - - - -", "REQ 9 40 1 ReadUnique 1040 - - 1 - -",
+                                 "SNP 40 8 5 SnpUnique 1040 - - - - -"})
+            HOLDS(take(observer, line) == Answer::OK);
+        const Answer answer = take(observer, "DAT 8 40 5 SnpRespData - I_PD - - - 0,7,0,0,0,0,0,0");
+        HOLDS(answer == (told == Stores::Listed ? Answer::Fault : Answer::OK));
+    }
+}
+
 /* Prints the first line on a trace. */
 static void observe(const char *file) {
     ObserverConfig config;
@@ -137,7 +169,9 @@ int main(int count, char **words) {
     for (int word = 1; word < count; word++) observe(words[word]);
     if (count > 1) return failures == 0 ? 0 : 1;
     moves();
+    copies();
     answers();
     faults();
+    stores();
     return failures == 0 ? 0 : 1;
 }

@@ -5,8 +5,9 @@ what was so at some moment since an open ReadOnce or CleanShared was sent (docs/
 cache is legal where some world lets its cache send it. A flit of the home is legal where, for some value of the home's
 own copy, it is safe in every world with that value. Nothing of what the observer keeps stands here.
 
-A flit is a tuple: ("cache" or "home", the agent, what it does, and with which words). Loads and stores are flits of a
-cache, without their words.
+A flit is a tuple: ("cache" or "home", the agent, what it does, and with which words). A load is a flit of a
+cache with the value that its word is of: legal where some copy has it, and nothing more is learnt of it. A store is one
+without. Of a line whose stores are all listed no hidden step is a store.
 """
 
 from collections import defaultdict
@@ -84,13 +85,13 @@ def is_coherent(world):
     return alone and dirty <= 1 and (dirty == 1 or world.void or world.home == world.last)
 
 
-def goes_on(world, agent, values):
-    """The worlds that a hidden step of the agent makes."""
+def goes_on(world, agent, stored):
+    """The worlds that a hidden step of the agent makes; `stored` are the values that a hidden store may leave."""
     copy, request = world.copies[agent], world.requests[agent]
     if request and request.phase == "retried":
         yield world._replace(requests=put(world.requests, agent, None), since=put(world.since, agent, 0))
     if request is None and copy in ("UC", "UD", "UCE"):
-        for value in range(values):
+        for value in stored:
             yield world._replace(copies=put(world.copies, agent, "UD"), last=value)
     if request is None and copy in ("SC", "UC", "UCE"):
         yield world._replace(copies=put(world.copies, agent, "I"))
@@ -99,8 +100,8 @@ def goes_on(world, agent, values):
 class Line:
     """The worlds of a line, with what everybody has seen: its unanswered snoops, and the home's duty."""
 
-    def __init__(self, agents, values):
-        self.agents, self.values = agents, values
+    def __init__(self, agents, values, listed):
+        self.agents, self.values, self.listed = agents, values, listed
         self.snoops, self.duty = (None,) * agents, False
         opening = (World(("I",) * agents, value, value, (None,) * agents, False, (0,) * agents) for value in range(values))
         self.worlds = self.closed(map(noticed, opening))
@@ -108,10 +109,11 @@ class Line:
     def closed(self, worlds):
         """These worlds, and those that hidden steps make of them."""
         found = set(worlds)
+        stored = () if self.listed else range(self.values)
         left = list(found)
         while left:
             world = left.pop()
-            new = {noticed(it) for agent in range(self.agents) for it in goes_on(world, agent, self.values)} - found
+            new = {noticed(it) for agent in range(self.agents) for it in goes_on(world, agent, stored)} - found
             found |= new
             left += new
         return frozenset(found)
@@ -162,10 +164,16 @@ class Line:
         left = {"UD": "UC", "SD": "SC"}.get(copy, copy) if request.kind == "WriteCleanFull" else "I"
         return done._replace(copies=put(world.copies, agent, left), home=value) if value == world.last else None
 
-    # -- loads and stores, whatever their words: of a store a world for each
+    # -- loads, of whatever value, and stores, whatever their words: of a store a world for each
 
-    def load(self, world, agent):
+    def load(self, world, agent, _value):
         return world if world.copies[agent] in ("SC", "SD", "UC", "UD") else None
+
+    def reads(self, world, agent, value):
+        """Whether the copy has the value, or may have any: where a hidden store may be done, if only behind a CompAck."""
+        request = world.requests[agent]
+        open_to_stores = world.copies[agent] in ("UC", "UD") and (not request or request.phase == "ack")
+        return world.last == value or (open_to_stores and not self.listed)
 
     def store(self, world, agent):
         request = world.requests[agent]
@@ -252,6 +260,8 @@ class Line:
         act = getattr(self, what)
         if side == "cache":
             made = [one for world in self.worlds if (one := act(world, agent, *words))]
+            if what == "load" and not any(self.reads(world, agent, *words) for world in made):
+                return set()
             return {it for one in made for it in (one if isinstance(one, list) else [one])}
         groups = defaultdict(list)
         for world in self.worlds:
@@ -278,7 +288,8 @@ class Line:
             return None
         _, agent, what, *words = flit
         line = object.__new__(Line)
-        line.agents, line.values, line.snoops, line.duty = self.agents, self.values, self.snoops, self.duty
+        line.agents, line.values, line.listed = self.agents, self.values, self.listed
+        line.snoops, line.duty = self.snoops, self.duty
         if what == "snoop":
             line.snoops = put(self.snoops, agent, words[0])
         elif what == "answer":

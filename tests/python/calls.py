@@ -445,7 +445,7 @@ class Observers(unittest.TestCase):
     def test_refusals(self):
         for sizes in ({"lines": 0}, {"ids": 0}, {"accounts": 0}, {"requesters": 0}, {"homes": 0}, {"requesters": 33},
                       {"lines": 16_777_217}, {"ids": 1 << 40}, {"accounts": -1}, {"homes": 256}, {"types": 1}, {"types": 8},
-                      {"early_grants": 2}):
+                      {"early_grants": 2}, {"stores": 2}, {"stores": -1}):
             self.assertRaises(chihome.OutOfRange, chihome.Observer, **sizes)
         with chihome.Observer(lines=8, ids=8, accounts=4, requesters=4) as observer:
             self.assertEqual(observer.config, chihome.ObserverConfig(8, 8, 4, 4))
@@ -515,6 +515,18 @@ class Observers(unittest.TestCase):
             self.assertEqual((fault.line, fault.since, fault.text), (
                 None, None, "line 1: CompAck of node 8: no completion with DBID 7 of it is open"))
 
+    def test_listed_stores(self):
+        for stores in chihome.Stores:
+            with chihome.Observer(stores=stores) as observer:
+                self.read(observer, 8, Resp.UC, 0x11, Opcode.ReadUnique)
+                for seen in (up(Opcode.ReadUnique, 9, 1), Seen(Opcode.SnpUnique, HOME, 8, 5, 0x1040)):
+                    self.assertTrue(observer.take(seen))
+                dirty = up(Opcode.SnpRespData, 8, 5, None, resp=Resp.I_PD, words=(0, 7, 0, 0, 0, 0, 0, 0))
+                if stores == chihome.Stores.Hidden:
+                    self.assertTrue(observer.take(dirty))
+                else:
+                    self.assertRaises(chihome.Fault, observer.take, dirty)
+
     def test_set_aside(self):
         with chihome.Observer() as observer:
             self.read(observer, 8, Resp.UC, 0x11)
@@ -525,6 +537,26 @@ class Observers(unittest.TestCase):
             counts = observer.counts()
             self.assertEqual((counts.aside, counts.first_aside), (1, chihome.Aside(0x1040, 4)))
             self.assertEqual((counts.flits, counts.lines, counts.accesses, counts.is_complete), (6, 2, 1, False))
+
+    @has("chi_observer_copy")
+    def test_copies(self):
+        with chihome.Observer(lines=2, ids=4, accounts=1, requesters=2) as observer:
+            observer.take(up(Opcode.ReadUnique, 8, 1))
+            with observer.copy() as copy:
+                self.assertEqual((copy.config, copy.ids(), copy.counts()), (observer.config, observer.ids(), observer.counts()))
+                self.assertTrue(copy == observer and observer == observer and observer != 1)
+                self.read(copy, 9, Resp.SC, 0x11)
+                self.assertEqual((observer.counts().flits, copy.counts().flits), (1, 4))
+                self.assertTrue(copy != observer)
+                self.assertRaises(chihome.Fault, observer.take, up(Opcode.ReadUnique, 8, 1, 0x1080))
+                self.assertIsNone(copy.fault())
+                with observer.copy() as failed:
+                    self.assertEqual(failed.fault(), observer.fault())
+                    self.assertTrue(failed == observer)
+            with chihome.Observer(lines=2, ids=4, accounts=1, requesters=2, stores=chihome.Stores.Listed) as other:
+                self.assertTrue(other != observer)
+        self.assertRaises(chihome.Closed, observer.copy)
+        self.assertRaises(chihome.Closed, lambda: observer == other)
 
     def test_what_is_held(self):
         with chihome.Observer() as observer:

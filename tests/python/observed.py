@@ -22,7 +22,7 @@ TOP = Path(__file__).resolve().parents[2]
 sys.dont_write_bytecode = True
 sys.path.insert(0, str(TOP / "library"))
 import chihome  # noqa: E402
-from chihome import IdForm, Opcode, Resp, Seen  # noqa: E402
+from chihome import IdForm, Opcode, Resp, Seen, Stores  # noqa: E402
 
 CHANNELS = {"REQ": range(1, 17), "SNP": range(17, 25), "RSP": range(25, 31), "DAT": range(31, 35), "CPU": range(35, 37)}
 OTHERS = {"REQ": Opcode.OtherRequest, "SNP": Opcode.OtherSnoop}
@@ -164,8 +164,8 @@ def ended(observer, complete):
 def observed(text, arguments):
     """The status and the lines on a trace; 1 and none where it is no trace."""
     types = int("--types" in arguments and {"two": 2, "four": 4}.get(arguments[arguments.index("--types") + 1], 0))
-    sizes = {"lines": 4096, "ids": 4096, "accounts": 1024, "homes": 255}
-    with chihome.Observer(**sizes, types=types, early_grants="--early-grants" in arguments) as observer:
+    told = {"types": types, "early_grants": "--early-grants" in arguments, "stores": Stores("listed" in arguments)}
+    with chihome.Observer(lines=4096, ids=4096, accounts=1024, homes=255, **told) as observer:
         try:
             for place, line in enumerate(text.split("\n"), 1):
                 seen = flit_in(line, place)
@@ -193,19 +193,19 @@ def asked(program, trace):
 
 
 def random_traces():
-    """Random traces: the seed of each, its text, how many lines it has, and whether the last of them is legal too."""
+    """Random traces: the seed of each, its arguments, its text, how many lines it has, and whether the last is legal too."""
     sys.path.insert(0, str(TOP / "tests/observe"))
     loader = importlib.machinery.SourceFileLoader("random_runs", str(TOP / "tests/observe/random"))
     runs = importlib.util.module_from_spec(importlib.util.spec_from_loader("random_runs", loader))
     loader.exec_module(runs)
     for seed in range(RUNS):
-        lines, legal = runs.trace_of(seed)
-        yield seed, "".join(f"{it}\n" for it in lines), len(lines), legal
+        lines, legal, listed = runs.trace_of(seed)
+        yield seed, ["--stores", "listed" if listed else "hidden"], "".join(f"{it}\n" for it in lines), len(lines), legal
 
 
-def is_right(text, length, legal):
+def is_right(text, arguments, length, legal):
     """Whether an observer takes all of a legal trace, and of another all but the last line."""
-    status, lines = observed(text, [])
+    status, lines = observed(text, arguments)
     if legal:
         return status == 0 and not any(it.startswith("set aside") for it in lines)
     return status == 6 and lines[0].startswith(f"line {length}: ")
@@ -216,6 +216,9 @@ def main(names):
     for trace in sorted(TOP.glob("tests/observe/*.trace")):
         arguments = trace.with_suffix(".args")
         arguments = arguments.read_text().split() if arguments.exists() else []
+        # (an observer begins with the trace, and sees flits where they are sent)
+        if {"--seen", "--start"} & set(arguments):
+            continue
         status, lines = stored(trace)
         # (the library keeps no flits for a context)
         wanted = status, [it for it in lines if not it.startswith("before: ")]
@@ -228,12 +231,12 @@ def main(names):
         wrong += [(trace, given, wanted)] * (given != wanted)
     for trace, given, wanted in wrong:
         print(f"{trace.relative_to(TOP)}: {given}, wanted {wanted}")
-    for seed, text, length, legal in random_traces():
-        right = is_right(text, length, legal)
+    for seed, arguments, text, length, legal in random_traces():
+        right = is_right(text, arguments, length, legal)
         same += right
         wrong += [seed] * (not right)
         if not right:
-            print(f"random trace {seed}: {observed(text, [])}")
+            print(f"random trace {seed}: {observed(text, arguments)}")
     print(f"{same} traces are judged the same, and {len(wrong)} otherwise")
     return 1 if wrong or not same else 0
 

@@ -238,11 +238,40 @@ class SeenLine(Line):
         self.monitor.say_data(key, free, words, *head, opcode, self.maybe_address(), resp=resp)
 
 
-def trace(seed, flits, agents, lines, four, beats, listed=None):
-    """The lines of the trace of a run with so many flits or a few more. Of loads and stores it lists none, some or all."""
+class HomeLine(SeenLine):
+    """A line of which each message to the home is seen when the home takes it."""
+
+    def __init__(self, monitor, number):
+        super().__init__(monitor, number)
+        # the lines of what is on its way, and what frees its id
+        self.coming, self.free = {}, None
+
+    def to_home(self, agent, opcode):
+        head, self.free = super().to_home(agent, opcode)
+        return head, lambda: None
+
+    def put(self, agent, channel, text, words=None):
+        before, self.free = len(self.monitor.lines), lambda: None
+        super().put(agent, channel, text, words)
+        if channel in ("Req", "RspUp", "DatUp"):
+            self.coming[agent, channel] = self.monitor.lines[before:], self.free
+            del self.monitor.lines[before:]
+
+    def take(self, agent, command):
+        key = agent, self.cell(agent, command)
+        if key in self.coming:
+            lines, free = self.coming.pop(key)
+            self.monitor.lines += lines
+            free()
+        return super().take(agent, command)
+
+
+def trace(seed, flits, agents, lines, four, beats, listed=None, seen=SeenLine):
+    """The lines of the trace of a run with so many flits or a few more. Of loads and stores it lists none, some or all; `seen`
+    says where messages are seen."""
     rng = random.Random(seed)
     monitor = Monitor(rng, agents, four, beats, listed)
-    run = [SeenLine(monitor, number) for number in range(lines)]
+    run = [seen(monitor, number) for number in range(lines)]
     while len(monitor.lines) < flits:
         if monitor.owed and rng.random() < 0.3:
             monitor.grant()

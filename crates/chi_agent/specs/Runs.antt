@@ -1,11 +1,14 @@
 -- What comes of all agents, each with its own script (docs/FORMATS.md, "A turn").
-use Rattle.std.specs.Prelude.{◌≡◌, ℕ, ◌≤◌, Bool, List, [], ◌∷◌, Option, None, ⊤}
+use Rattle.std.specs.Prelude.{◌≡◌, ℕ, ◌≤◌, List, [], ◌∷◌, Option, None}
+use Rattle.std.specs.List.{AllZip}
 use Rattle.std.specs.declared.alloc.Global.{Global}
 use Rattle.chi_flit.specs.declared.operation.Operation.{Operation}
 use Rattle.chi_slice.specs.Words.{Sizes}
+use Rattle.chi_node.specs.Calls.{IsSameRequester}
 use Rattle.chi_node.specs.Requester.{RequesterState}
 use Rattle.chi_audit.specs.declared.reports.Report.{Report}
 use Rattle.chi_audit.specs.Gathered.{report_at, AreToldKept}
+use Rattle.chi_agent.specs.declared.ended.AgentResult.{AgentResult}
 use Rattle.chi_agent.specs.declared.player.Player.{Player}
 use Rattle.chi_agent.specs.declared.threads.Back.{Back}
 use Rattle.chi_agent.specs.Lives.{opening_player, IsReportOf, Lived}
@@ -25,19 +28,18 @@ start_of config seed most r script = record { config = config; seed = seed; most
 abbrev pub LivesTo : Start → Player Global → Type 0
 LivesTo a p = Lived a.config a.seed a.most a.requester.number (opening_player a.requester a.script) p
 
--- the requester, the report and the flag are those of an agent that began so
-pub record LeavesRun (a : Start) (r : RequesterState) (report : Report) (met : Bool) : Type 0 where
+-- the result is that of an agent that began so, and its requester still that of its number and its tracker
+pub record LeavesRun (a : Start) (left : AgentResult) : Type 0 where
   pub last : Player Global
   pub lived : LivesTo a last
-  pub requester : r ≡ last.requester
-  pub told : IsReportOf last report
-  pub not_open : met ≡ last.not_open
+  pub requester : left.requester ≡ last.requester
+  pub told : IsReportOf last left.report
+  pub not_open : left.not_open ≡ last.not_open
+  pub same : IsSameRequester a.requester left.requester
 
 -- so of each agent, in their order
-abbrev pub AllLeave : List Start → List RequesterState → List Report → List Bool → Type 0
-AllLeave [] [] [] [] = ⊤
-AllLeave (a ∷ xs) (r ∷ rs) (t ∷ ts) (m ∷ ms) = LeavesRun a r t m × AllLeave xs rs ts ms
-AllLeave xs rs ts ms = ⊥
+abbrev pub AllLeave : List Start → List AgentResult → Type 0
+AllLeave starts results = AllZip LeavesRun starts results
 
 -- each requester begins with the script in its place
 abbrev pub starts : Sizes → ℕ → ℕ → List RequesterState → List (List Operation) → List Start

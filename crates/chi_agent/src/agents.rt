@@ -6,7 +6,7 @@ ghost use Rattle.chi_node.specs.Node.{AreOwn, IsOwn};
 ghost use Rattle.chi_audit.specs.Numbers.{numbers};
 ghost use Rattle.chi_agent.specs.Script.{operations_of, writer_of, AreFresh};
 ghost use Rattle.chi_agent.specs.Runs.{starts, AllLeave, KeepsTold};
-ghost use Rattle.chi_agent.specs.Ended.{requester_number, outbox_of, AreSame};
+ghost use Rattle.chi_agent.specs.Ended.{report_of, requester_number, requester_of, outbox_of};
 
 use crate::ended::Ended;
 use crate::gates::Gate;
@@ -76,12 +76,12 @@ pub fn run_agents<R: Threads + Wait + Clock + Sync, A: Allocator + Send + Sync, 
     requires writers { map writer_of scripts.items ≡ numbers node.now.config.agents }
     ensures lives { IfOk result (λ e. AllLeave
         (starts node.now.config seed turns requesters.items (operations_of scripts.items))
-        e.requesters.items e.reports.items e.not_open.items) }
-    ensures own { IfOk result (λ e. AreOwn node.now e.requesters.items) }
-    ensures same { IfOk result (λ e. AreSame requesters.items e.requesters.items) }
+        e.results.items) }
+    ensures own { IfOk result (λ e. AreOwn node.now (map requester_of e.results.items)) }
     ensures reports { IfOk result (λ e. IsGathered node.now.config.agents e.inbox.got e.gathered) }
     ensures kept { IfOk result
-        (λ e. KeepsTold node.now.config.agents e.reports.items e.gathered.reports) }
+        (λ e. KeepsTold node.now.config.agents (map report_of e.results.items)
+        e.gathered.reports) }
 {
     let agents = count_of(node);
     let (outboxes, inbox) = boxes_for(alloc, agents, &requesters)?;
@@ -107,22 +107,20 @@ pub fn run_agents<R: Threads + Wait + Clock + Sync, A: Allocator + Send + Sync, 
             requires unread { (inbox.got ≡ []) × (inbox.told ≡ []) }
             ensures lives { result.1 ≡ true → AllLeave
                 (starts node.entry.now.config plan.seed plan.turns requesters.items (operations_of scripts.items))
-                result.0.requesters.items result.0.reports.items result.0.not_open.items }
-            ensures same { result.1 ≡ true → AreSame requesters.items result.0.requesters.items }
+                result.0.results.items }
             ensures reports { IsGathered plan.agents result.0.inbox.got result.0.gathered }
-            ensures kept { KeepsTold plan.agents result.0.reports.items result.0.gathered.reports }
+            ensures kept { KeepsTold plan.agents (map report_of result.0.results.items)
+                result.0.gathered.reports }
         {
             let mut inbox = inbox;
             let (handles, complete) = start_all(
                 scope, rt, node, tallies, gate, count, plan, handles, requesters, scripts,
                 outboxes, &inbox,
             );
-            let (requesters, reports, not_open) = join_all(rt, handles, &mut inbox);
+            let results = join_all(rt, handles, &mut inbox);
             let gathered = gather(rt, plan.agents, &mut inbox);
             let back = Ended {
-                requesters,
-                reports,
-                not_open,
+                results,
                 gathered,
                 inbox,
             };

@@ -33,7 +33,7 @@ mod visits;
 pub use agents::run_agents;
 pub use choice::{Call, Choice, line_of};
 pub use draws::Draws;
-pub use ended::Ended;
+pub use ended::{AgentResult, Ended, requesters_of};
 pub use gates::{Gate, OpenGate};
 pub use operations::{OperationPlace, Operations, Unfinished};
 pub use player::Player;

@@ -3,13 +3,13 @@
 ghost use Rattle.std.specs.Prelude.{◌≡◌, ◌≤◌, [], All, IfOk, map, true, vec_capacity, vec_len};
 ghost use Rattle.chi_agent.specs.Lives.{IsReportOf};
 ghost use Rattle.chi_agent.specs.Runs.{begun, start_of, starts, AllLeave, LeavesRun};
-ghost use Rattle.chi_node.specs.Calls.{IsSameRequester};
 ghost use Rattle.chi_node.specs.Node.{IsOwn};
 ghost use Rattle.chi_audit.specs.Tallies.{IsFresh};
 ghost use Rattle.chi_agent.specs.Script.{operations_of, writer_of, AreFresh};
-ghost use Rattle.chi_agent.specs.Ended.{requester_number, outbox_of, AreSame};
+ghost use Rattle.chi_agent.specs.Ended.{report_of, requester_number, outbox_of};
 
 use crate::draws::Draws;
+use crate::ended::AgentResult;
 use crate::gates::Gate;
 use crate::lives::{Plan, live};
 use crate::player::Player;
@@ -28,12 +28,11 @@ use std::sync::atomic::AtomicU64;
 use std::thread::{Promise, PromisedHandle, Scope, Threads};
 use std::time::Clock;
 
-/// What comes back from a thread: the requester, its report, which was sent, and whether refusal 11 was met.
+/// What comes back from a thread: its agent's result, and that its report was sent.
 #[derive(Drop)]
 pub(crate) struct Came {
-    pub(crate) requester: Requester,
+    pub(crate) left: AgentResult,
     pub(crate) sent: Sent,
-    pub(crate) not_open: bool,
 }
 
 /// What comes back is left of an agent that took this seat: it played its script by its draws.
@@ -45,13 +44,12 @@ pub(crate) struct Back {
 }
 
 impl Promise<Came> for Back {
-    ghost use Rattle.chi_node.specs.Calls.{IsSameRequester};
     ghost use Rattle.std.specs.Prelude.{◌≡◌};
-    ghost use Rattle.chi_agent.specs.Runs.{start_of, LeavesRun};
+    ghost use Rattle.chi_agent.specs.Runs.{begun, LeavesRun};
 
-    ghost kept_by = { λ p came. LeavesRun (start_of p.config.value p.plan.seed p.plan.turns p.seat.value.requester p.seat.value.script.operations) came.requester came.sent.report came.not_open
-        × (came.sent.channel ≡ p.seat.value.outbox.channel)
-        × IsSameRequester p.seat.value.requester came.requester };
+    ghost kept_by = { λ p came. LeavesRun (begun p) came.left
+        × (came.sent.report ≡ came.left.report)
+        × (came.sent.channel ≡ p.seat.value.outbox.channel) };
 }
 
 /// What the agent did.
@@ -66,26 +64,31 @@ fn report_of(player: &Player<Global>) -> Report
     }
 }
 
-/// What is left of an agent that took all its turns, once its report was sent.
-fn leave<R: Wait>(rt: &R, player: Player<Global>, outbox: Outbox) -> Came
-    requires { outbox.agent ≡ player.requester.number }
+/// What is left of an agent that took all its turns.
+fn result_of(player: Player<Global>) -> AgentResult
     ensures requester { result.requester ≡ player.requester }
-    ensures report { IsReportOf player result.sent.report }
-    ensures sent { result.sent.channel ≡ outbox.channel }
+    ensures report { IsReportOf player result.report }
     ensures met { result.not_open ≡ player.not_open }
 {
     let report = report_of(&player);
-    let sent = outbox.send(rt, report);
-    let Player {
+    let not_open = player.not_open;
+    let Player { requester, .. } = player;
+    AgentResult {
         requester,
-        not_open,
-        ..
-    } = player;
-    Came {
-        requester,
-        sent,
+        report,
         not_open,
     }
+}
+
+/// Sends the report of an agent that took all its turns.
+fn send<R: Wait>(rt: &R, left: AgentResult, outbox: Outbox) -> Came
+    requires { outbox.agent ≡ left.report.agent.0 }
+    ensures left { result.left ≡ left }
+    ensures report { result.sent.report ≡ left.report }
+    ensures channel { result.sent.channel ≡ outbox.channel }
+{
+    let sent = outbox.send(rt, left.report);
+    Came { left, sent }
 }
 
 /// An agent from its first turn to its report.
@@ -101,9 +104,9 @@ fn run<R: Wait + Clock, A: Allocator, G: Gate>(
     requires own { IsOwn node.now seat.requester }
     requires fresh { IsFresh tallies.now seat.script.writer }
     ensures leaves { LeavesRun (start_of node.now.config plan.seed plan.turns seat.requester seat.script.operations)
-        result.requester result.sent.report result.not_open }
-    ensures sent { result.sent.channel ≡ seat.outbox.channel }
-    ensures same { IsSameRequester seat.requester result.requester }
+        result.left }
+    ensures report { result.sent.report ≡ result.left.report }
+    ensures channel { result.sent.channel ≡ seat.outbox.channel }
 {
     let Seat {
         requester,
@@ -114,7 +117,7 @@ fn run<R: Wait + Clock, A: Allocator, G: Gate>(
     let mut runner = Runner::new(tallies, script, requester, draws);
     live(rt, node, gate, ended, plan, &mut runner);
     let Runner { player, .. } = runner;
-    leave(rt, player, outbox)
+    send(rt, result_of(player), outbox)
 }
 
 /// What comes back is left of the agent of this seat.
@@ -163,9 +166,9 @@ fn start_one<
         requires own { IsOwn node.now seat.requester }
         requires fresh { IsFresh tallies.now seat.script.writer }
         ensures leaves { LeavesRun (start_of node.entry.now.config plan.seed plan.turns seat.requester seat.script.operations)
-            result.requester result.sent.report result.not_open }
-        ensures sent { result.sent.channel ≡ seat.outbox.channel }
-        ensures same { IsSameRequester seat.requester result.requester }
+            result.left }
+        ensures report { result.sent.report ≡ result.left.report }
+        ensures channel { result.sent.channel ≡ seat.outbox.channel }
     { run(rt, node, tallies, gate, ended, plan, seat) };
     match scope.spawn_with(back, life) {
         Ok(handle) => Ok(handle),
@@ -174,7 +177,6 @@ fn start_one<
 }
 
 /// Starts a thread for each agent, and says whether each was started.
-#[tactic(auto, using(crate::proofs::Returns::all_started))]
 pub(crate) fn start_all<
     's,
     'r: 's,
@@ -209,8 +211,6 @@ pub(crate) fn start_all<
     ensures few { vec_len result.0 ≤ plan.agents }
     ensures all { result.1 ≡ true → map (λ h. begun h.promise) result.0.items
         ≡ starts node.now.config plan.seed plan.turns requesters.items (operations_of scripts.items) }
-    ensures same { result.1 ≡ true
-        → map (λ h. h.promise.seat.value.requester) result.0.items ≡ requesters.items }
     ensures channels { All (λ h. h.promise.seat.value.outbox.channel
         ≡ inbox.now.channel) result.0.items }
 {
@@ -228,35 +228,26 @@ pub(crate) fn start_all<
 }
 
 /// What comes back from each thread, in the order in which they were started. The inbox is told of the reports.
-#[tactic(auto, using(crate::proofs::Returns::comes_back, crate::proofs::Returns::all_back))]
+#[tactic(auto, using(crate::proofs::Left::all_left))]
 pub(crate) fn join_all<R: Threads>(
     rt: &R,
     mut handles: Vec<PromisedHandle<Came, Back>>,
     inbox: &mut Inbox,
-) -> (
-    ArrayVec<Requester, 8>,
-    ArrayVec<Report, 8>,
-    ArrayVec<bool, 8>,
-)
+) -> ArrayVec<AgentResult, 8>
     requires few { vec_len handles ≤ 8 }
     requires channels { All (λ h. h.promise.seat.value.outbox.channel
         ≡ inbox.old.channel) handles.items }
     requires unread { (inbox.old.got ≡ []) × (inbox.old.told ≡ []) }
-    ensures same { AreSame (map (λ h. h.promise.seat.value.requester) handles.items) result.0.items }
-    ensures leave { AllLeave (map (λ h. begun h.promise) handles.items) result.0.items result.1.items result.2.items }
-    ensures told { inbox.new.told ≡ result.1.items }
+    ensures leave { AllLeave (map (λ h. begun h.promise) handles.items) result.items }
+    ensures told { inbox.new.told ≡ map report_of result.items }
     ensures unread { inbox.new.got ≡ [] }
 {
     let count = handles.len();
-    let mut requesters = ArrayVec::new();
-    let mut reports = ArrayVec::new();
-    let mut not_open = ArrayVec::new();
+    let mut results = ArrayVec::new();
     for _ in 0..count {
         let came = handles.remove(0).join(rt);
-        requesters.push(came.requester);
-        reports.push(came.sent.report());
         inbox.absorb(came.sent);
-        not_open.push(came.not_open);
+        results.push(came.left);
     }
-    (requesters, reports, not_open)
+    results
 }

@@ -1,4 +1,4 @@
-//! What the tests share: nodes, and the scripts of agents with the writers of their tallies.
+//! What the tests share: nodes, scripts of agents with the writers of their tallies, and runs of them.
 
 ghost use Rattle.std.specs.Prelude.{◌≡◌, ◌≤◌, All, length, map, vec_len};
 ghost use Rattle.chi_slice.specs.Words.{two_types};
@@ -9,13 +9,19 @@ ghost use Rattle.chi_agent.specs.Ended.{requester_number};
 ghost use Rattle.chi_agent.specs.Script.{writer_of, AreFresh};
 
 use arrayvec::ArrayVec;
-use chi_agent::Script;
+use chi_agent::{Ended, Gate, Script, run_agents};
 use chi_audit::{Tallies, Watcher, Writer};
-use chi_flit::{Line, Operation, Task, WordNo};
+use chi_flit::{Line, Operation, Task};
 use chi_node::{Node, Requester};
 use chi_slice::Config;
 use std::alloc::Global;
 use std::process::Abort;
+use std::sync::Wait;
+use std::thread::Threads;
+use std::time::Clock;
+
+/// The seed of every run.
+pub const SEED: u64 = 7;
 
 /// An operation on a line.
 pub fn on(line: u8, task: Task) -> Operation {
@@ -45,61 +51,6 @@ pub fn node_of(
     ensures numbers { map requester_number result.1.items ≡ numbers config.now.agents }
 {
     Node::new(alloc, config).expect(rt, "memory for a node")
-}
-
-/// What agent `own` of eight does: it stores to its line and writes it back, and loads and drops the next.
-fn neighbours(own: u8, next: u8) -> [Operation; 4] {
-    let value = u64::from(own).saturating_add(1);
-    [
-        on(own, Task::Store(WordNo(0), value)),
-        on(own, Task::WriteBack),
-        on(next, Task::Load(WordNo(0))),
-        on(next, Task::Drop),
-    ]
-}
-
-/// The scripts of eight agents, each of which goes to its neighbour's line.
-pub fn eight_scripts() -> [[Operation; 4]; 8] {
-    [
-        neighbours(0, 1),
-        neighbours(1, 2),
-        neighbours(2, 3),
-        neighbours(3, 4),
-        neighbours(4, 5),
-        neighbours(5, 6),
-        neighbours(6, 7),
-        neighbours(7, 0),
-    ]
-}
-
-/// What agent `own` of eight does on two lines that all want: it stores to each and writes it back, twice.
-fn twice(own: u8) -> [Operation; 8] {
-    let (one, other) = (own % 2, 1 - own % 2);
-    let store = Task::Store(WordNo(0), 1);
-    [
-        on(one, store),
-        on(one, Task::WriteBack),
-        on(other, store),
-        on(other, Task::WriteBack),
-        on(one, store),
-        on(one, Task::WriteBack),
-        on(other, store),
-        on(other, Task::WriteBack),
-    ]
-}
-
-/// The scripts of eight agents that take two lines from one another.
-pub fn rival_scripts() -> [[Operation; 8]; 8] {
-    [
-        twice(0),
-        twice(1),
-        twice(2),
-        twice(3),
-        twice(4),
-        twice(5),
-        twice(6),
-        twice(7),
-    ]
 }
 
 /// A script of these operations.
@@ -160,4 +111,30 @@ pub fn opened<const N: usize>(
     let (tallies, writers, watcher) = made.expect(rt, "memory for tallies");
     let scripts = scripts_of(rt, alloc, &tallies, all, writers);
     (tallies, scripts, watcher)
+}
+
+/// What comes of agents that run these scripts for so many turns at most, and of their tallies.
+pub fn ran<R: Abort + Threads + Wait + Clock + Sync, G: Gate, const N: usize>(
+    rt: &R,
+    alloc: Global,
+    node: &Node<Global>,
+    requesters: ArrayVec<Requester, 8>,
+    all: &[[Operation; N]],
+    turns: u64,
+    gate: &G,
+) -> (Ended, Tallies, Watcher)
+    requires own { AreOwn node.now requesters.items }
+    requires numbers { map requester_number requesters.items ≡ numbers node.now.config.agents }
+    requires agents { node.now.tracker.shape.agents ≡ node.now.config.agents }
+    requires count { length all.now ≡ node.now.config.agents }
+    ensures cells { length result.1 ≡ node.now.config.agents }
+    ensures watched { map reader_cell result.2 ≡ result.1 }
+{
+    let agents = node.config().agents();
+    let (tallies, scripts, watcher) = opened(rt, alloc, agents, all);
+    let made = run_agents(
+        rt, alloc, node, &tallies, requesters, scripts, SEED, turns, gate,
+    );
+    let ended = made.expect(rt, "memory and threads for agents");
+    (ended, tallies, watcher)
 }

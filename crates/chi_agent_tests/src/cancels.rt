@@ -1,15 +1,30 @@
 //! A request that is cancelled in a storm.
 
-use crate::bench::{eight_sizes, node_of, opened, rival_scripts};
+use crate::bench::{SEED, eight_sizes, node_of, on, opened};
 use chi_agent::{Ended, Gate, run_agents};
 use chi_audit::Report;
-use chi_flit::{Agent, Line};
+use chi_flit::{Agent, Line, Operation, Task, WordNo};
 use chi_node::Node;
 use chi_slice::Phase;
 use std::alloc::Global;
 use std::sync::Wait;
 use std::sync::atomic::{AtomicBool, AtomicU64, Ordering};
 use std::thread;
+
+/// What an agent does on two lines that all want: it stores to each and writes it back, twice.
+fn twice(one: u8, other: u8) -> [Operation; 8] {
+    let (store, back) = (Task::Store(WordNo(0), 1), Task::WriteBack);
+    [
+        on(one, store),
+        on(one, back),
+        on(other, store),
+        on(other, back),
+        on(one, store),
+        on(one, back),
+        on(other, store),
+        on(other, back),
+    ]
+}
 
 /// Has eight agents take turns in rising order, one at a time, until a request of one was cancelled; then each goes
 /// on when it likes.
@@ -19,40 +34,20 @@ struct Rounds<'r, 'n, R> {
     node: &'n Node<Global>,
     /// So many turns have ended.
     ended: AtomicU64,
-    /// Of line 0.
-    first: Retried,
-    /// Of line 1.
-    second: Retried,
+    /// A bit for each agent and line: whether its request there was in phase Retried before its last turn.
+    retried: AtomicU64,
     cancelled: AtomicBool,
 }
 
-/// Whether an agent's request on a line was in phase Retried before its last turn.
-#[derive(Drop)]
-struct Retried {
-    marks: [AtomicBool; 8],
-}
-
-impl Retried {
-    /// No request was.
-    fn new() -> Retried {
-        Retried {
-            marks: [off(), off(), off(), off(), off(), off(), off(), off()],
-        }
-    }
-
-    /// Whether the agent's request was, which is now or isn't.
-    fn swap(&self, agent: Agent, now: bool) -> bool {
-        let own = usize::from(agent.0);
-        if own > 7 {
-            return false;
-        }
-        self.marks[own].swap(now, Ordering::SeqCst)
-    }
-}
-
-/// A mark that isn't set.
-fn off() -> AtomicBool {
-    AtomicBool::new(false)
+/// Sets or clears a bit; whether it was set before.
+fn swap(bits: &AtomicU64, place: u32, now: bool) -> bool {
+    let bit = 1u64 << (place % 64);
+    let before = if now {
+        bits.fetch_or(bit, Ordering::SeqCst)
+    } else {
+        bits.fetch_and(!bit, Ordering::SeqCst)
+    };
+    before & bit != 0
 }
 
 /// How far the request that the agent has pending on the line has come, if it has one.
@@ -60,17 +55,10 @@ fn phase_at<R: Wait>(rt: &R, node: &Node<Global>, agent: Agent, line: Line) -> O
     let Ok(slice) = node.lock(rt, line) else {
         return None;
     };
-    let Ok(view) = slice.view(line) else {
+    let Ok(at) = slice.agent_line(agent, line) else {
         return None;
     };
-    let place = usize::from(agent.0);
-    if place > 7 {
-        return None;
-    }
-    match view.pending[place] {
-        Some(request) => Some(request.phase),
-        None => None,
-    }
+    at.copy.pending().map(|request| request.phase)
 }
 
 impl<R: Wait> Rounds<'_, '_, R> {
@@ -79,10 +67,8 @@ impl<R: Wait> Rounds<'_, '_, R> {
     fn look(&self, agent: Agent, line: u8) {
         let phase = phase_at(self.rt, self.node, agent, Line(line));
         let retried = phase == Some(Phase::Retried);
-        let before = match line {
-            0 => self.first.swap(agent, retried),
-            _ => self.second.swap(agent, retried),
-        };
+        let place = u32::from(agent.0 % 8) + u32::from(line % 8) * 8;
+        let before = swap(&self.retried, place, retried);
         if before && phase.is_none() {
             self.cancelled.store(true, Ordering::SeqCst);
         }
@@ -126,17 +112,19 @@ fn have_finished(ended: &Ended) -> bool {
     finished
 }
 
-// While the agents take turns one at a time, the run is that of `a_retried_write_back_is_cancelled`.
+// A write-back that was retried has nothing to write once a store of another agent has taken the line. So it is
+// in the run in which the agents take turns one at a time, which is the same each time.
 #[test]
 fn a_storm_goes_on_behind_a_cancelled_request(rt: HostRuntime) {
     let (node, requesters) = node_of(&rt, rt.alloc(), &eight_sizes(&rt));
-    let (tallies, scripts, _watcher) = opened(&rt, rt.alloc(), 8, &rival_scripts());
+    let (even, odd) = (twice(0, 1), twice(1, 0));
+    let all = [even, odd, even, odd, even, odd, even, odd];
+    let (tallies, scripts, _watcher) = opened(&rt, rt.alloc(), 8, &all);
     let gate = Rounds {
         rt: &rt,
         node: &node,
         ended: AtomicU64::new(0),
-        first: Retried::new(),
-        second: Retried::new(),
+        retried: AtomicU64::new(0),
         cancelled: AtomicBool::new(false),
     };
     let ran = run_agents(
@@ -146,7 +134,7 @@ fn a_storm_goes_on_behind_a_cancelled_request(rt: HostRuntime) {
         &tallies,
         requesters,
         scripts,
-        7,
+        SEED,
         10_000_000,
         &gate,
     );

@@ -12,6 +12,7 @@ use chi_flit::Step::{
 use chi_flit::{Agent, Effect, Entry, Line, Slot, State, WordNo};
 use chi_node::{Arrived, Node, Released, Stepped};
 use chi_slice::{Config, LineView, Serving};
+use std::alloc::Global;
 use std::process::Abort;
 use std::sync::Wait;
 
@@ -105,33 +106,42 @@ fn plays<R: Abort + Wait>(rt: &R, guest: &mut Guest<'_>, call: Call) {
     }
 }
 
-/// The reader has the line to itself, nobody is served or waits, and memory has what was handed on.
-fn ends(rt: &impl Abort, view: &LineView) {
-    let mut named = [false; 8];
-    named[1] = true;
-    assert_eq!(rt; view.copies[0].state, State::I);
-    assert_eq!(rt; view.copies[1].state, State::UD);
-    assert_eq!(rt; view.copies[1].words, [9, 0, 0, 0, 0, 0, 0, 0]);
-    assert_eq!(rt; view.named, named);
-    assert!(rt; view.unique);
-    assert_eq!(rt; view.serving, Serving::Idle);
-    assert_eq!(rt; view.waiting, [None; 8]);
-    assert_eq!(rt; view.memory, [5, 0, 0, 0, 0, 0, 0, 0]);
+/// Whether the reader has the line to itself, nobody is served or waits, and memory has what was handed on.
+fn has_ended(view: &LineView) -> bool {
+    let named = [false, true, false, false, false, false, false, false];
+    view.copies[0].state == State::I
+        && view.copies[1].state == State::UD
+        && view.copies[1].words == [9, 0, 0, 0, 0, 0, 0, 0]
+        && (view.named, view.unique) == (named, true)
+        && view.serving == Serving::Idle
+        && view.waiting == [None; 8]
+        && view.memory == [5, 0, 0, 0, 0, 0, 0, 0]
+}
+
+/// What line 0 shows, and how many loads and stores there are, where these calls are done in a node of that size.
+/// After each call every slice is looked at.
+fn played<R: Abort + Wait>(
+    rt: &R,
+    alloc: Global,
+    config: &Config,
+    calls: &[(u8, Call)],
+) -> (LineView, usize) {
+    let made = Node::new(alloc, config);
+    let (node, requesters) = made.expect(rt, "memory for a node");
+    let mut guests = guests_of(rt, alloc, &node, requesters);
+    let mut seen_lines = SeenLines::new(rt, alloc, &node);
+    for (agent, call) in calls {
+        assert!(rt; usize::from(*agent) < guests.len());
+        plays(rt, &mut guests[usize::from(*agent)], *call);
+        seen_lines.follow(rt, Agent(*agent), LINE);
+    }
+    (seen_lines.view(rt, LINE), seen_lines.recorded())
 }
 
 #[test]
 fn a_call_changes_nothing_but_its_line(rt: HostRuntime) {
-    let made = Node::new(rt.alloc(), &sizes(&rt));
-    let (node, requesters) = made.expect(&rt, "memory for a node");
-    let mut guests = guests_of(&rt, rt.alloc(), &node, requesters);
-    let mut seen_lines = SeenLines::new(&rt, rt.alloc(), &node);
-    for (agent, call) in CALLS {
-        assert!(rt; usize::from(agent) < guests.len());
-        plays(&rt, &mut guests[usize::from(agent)], call);
-        seen_lines.follow(&rt, Agent(agent), LINE);
-    }
-    ends(&rt, &seen_lines.view(&rt, LINE));
-    assert_eq!(rt; seen_lines.recorded(), 3);
+    let (view, recorded) = played(&rt, rt.alloc(), &sizes(&rt), &CALLS);
+    assert!(rt; has_ended(&view) && recorded == 3);
 }
 
 /// Three requesters on one line, with two entries of type 0 and one of type 1.
@@ -143,16 +153,7 @@ fn three(rt: &impl Abort) -> Config
 
 #[test]
 fn a_call_changes_no_copy_but_its_agents(rt: HostRuntime) {
-    let made = Node::new(rt.alloc(), &three(&rt));
-    let (node, requesters) = made.expect(&rt, "memory for a node");
-    let mut guests = guests_of(&rt, rt.alloc(), &node, requesters);
-    let mut seen_lines = SeenLines::new(&rt, rt.alloc(), &node);
-    for (agent, call) in CLEAN_CALLS {
-        assert!(rt; usize::from(agent) < guests.len());
-        plays(&rt, &mut guests[usize::from(agent)], call);
-        seen_lines.follow(&rt, Agent(agent), LINE);
-    }
-    let view = seen_lines.view(&rt, LINE);
+    let (view, _) = played(&rt, rt.alloc(), &three(&rt), &CLEAN_CALLS);
     for agent in 0..3 {
         assert_eq!(rt; view.copies[agent].state, State::SC);
     }

@@ -3,7 +3,7 @@
 ghost use Rattle.std.specs.Prelude.{◌≡◌};
 ghost use Rattle.chi_slice.specs.Words.{two_types};
 
-use crate::bench::{node_of, on, opened};
+use crate::bench::{SEED, node_of, on, opened, ran};
 use chi_agent::{Gate, run_agents};
 use chi_audit::Report;
 use chi_flit::{Agent, Operation, Task, WordNo};
@@ -52,23 +52,11 @@ fn loads() -> [[Operation; 1]; 2] {
 #[test]
 fn both_run_at_once(rt: HostRuntime) {
     let (node, requesters) = node_of(&rt, rt.alloc(), &sizes(&rt));
-    let (tallies, scripts, _watcher) = opened(&rt, rt.alloc(), 2, &loads());
     let gate = Meeting {
         came: [AtomicBool::new(false), AtomicBool::new(false)],
         saw: [AtomicBool::new(false), AtomicBool::new(false)],
     };
-    let ran = run_agents(
-        &rt,
-        rt.alloc(),
-        &node,
-        &tallies,
-        requesters,
-        scripts,
-        1,
-        100_000,
-        &gate,
-    );
-    assert!(rt; ran.is_ok());
+    ran(&rt, rt.alloc(), &node, requesters, &loads(), 100_000, &gate);
     assert!(rt; gate.saw[0].load(Ordering::SeqCst));
     assert!(rt; gate.saw[1].load(Ordering::SeqCst));
 }
@@ -107,23 +95,11 @@ fn unfinished(agent: u8) -> Report {
 #[test]
 fn turns_are_used_up(rt: HostRuntime) {
     let (node, requesters) = node_of(&rt, rt.alloc(), &sizes(&rt));
-    let (tallies, scripts, _watcher) = opened(&rt, rt.alloc(), 2, &loads());
     let gate = Count {
         turns: [AtomicU64::new(0), AtomicU64::new(0)],
         in_order: AtomicBool::new(true),
     };
-    let ran = run_agents(
-        &rt,
-        rt.alloc(),
-        &node,
-        &tallies,
-        requesters,
-        scripts,
-        1,
-        4,
-        &gate,
-    );
-    let ended = ran.expect(&rt, "memory and threads for agents");
+    let (ended, _, _) = ran(&rt, rt.alloc(), &node, requesters, &loads(), 4, &gate);
     assert!(rt; gate.in_order.load(Ordering::SeqCst));
     assert_eq!(rt; gate.turns[0].load(Ordering::SeqCst), 4);
     assert_eq!(rt; gate.turns[1].load(Ordering::SeqCst), 4);
@@ -165,18 +141,18 @@ fn the_gate_is_passed_before_the_turn(rt: HostRuntime) {
         node: &node,
         free: AtomicU64::new(9),
     };
-    let ran = run_agents(
+    let ended = run_agents(
         &rt,
         rt.alloc(),
         &node,
         &tallies,
         requesters,
         scripts,
-        1,
+        SEED,
         2,
         &gate,
     );
-    assert!(rt; ran.is_ok());
+    assert!(rt; ended.is_ok());
     assert_eq!(rt; gate.free.load(Ordering::SeqCst), 1);
     assert_eq!(rt; node.tracker().glance().free[0], 0);
 }

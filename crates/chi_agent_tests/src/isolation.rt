@@ -5,18 +5,41 @@ ghost use Rattle.chi_node.specs.Node.{IsOwn};
 ghost use Rattle.chi_audit.specs.Tallies.{IsFresh};
 ghost use Rattle.chi_agent.specs.Script.{AreFresh};
 
-use crate::bench::{eight_scripts, eight_sizes, node_of, opened, rival_scripts};
+use crate::bench::{SEED, eight_sizes, node_of, on, opened};
 use crate::guests::{Guest, guests_of};
 use crate::seen_lines::SeenLines;
 use chi_agent::{Draws, OpenGate, Runner, Script};
 use chi_audit::Tallies;
-use chi_flit::{Line, Slot};
-use chi_node::{Node, SlotState};
+use chi_flit::{Line, Operation, Task, WordNo};
+use chi_node::Node;
 use std::alloc::Global;
 use std::process::Abort;
 use std::sync::Wait;
 
-const SEED: u64 = 7;
+/// What agent `own` of eight does: it stores to its line and writes it back, and loads and drops the next.
+fn neighbours(own: u8, next: u8) -> [Operation; 4] {
+    let value = u64::from(own).saturating_add(1);
+    [
+        on(own, Task::Store(WordNo(0), value)),
+        on(own, Task::WriteBack),
+        on(next, Task::Load(WordNo(0))),
+        on(next, Task::Drop),
+    ]
+}
+
+/// The scripts of eight agents, each of which goes to its neighbour's line.
+fn eight_scripts() -> [[Operation; 4]; 8] {
+    [
+        neighbours(0, 1),
+        neighbours(1, 2),
+        neighbours(2, 3),
+        neighbours(3, 4),
+        neighbours(4, 5),
+        neighbours(5, 6),
+        neighbours(6, 7),
+        neighbours(7, 0),
+    ]
+}
 
 /// An agent of the node, and the words that it draws, once more.
 #[derive(Drop)]
@@ -119,42 +142,4 @@ fn a_turn_changes_its_own_line_alone(rt: HostRuntime) {
     assert_eq!(rt; movers.len(), 8);
     assert!(rt; have_finished(&movers));
     assert_eq!(rt; seen_lines.recorded(), 16);
-}
-
-/// Whether a slot of the agent is Cancelled.
-fn has_cancelled(mover: &Mover<'_, '_>) -> bool {
-    let mut found = false;
-    for slot in 0..8 {
-        let state = mover.runner.player.requester.slot(Slot(slot)).state;
-        found |= matches!(state, SlotState::Cancelled);
-    }
-    found
-}
-
-/// Each takes a turn, in rising order; whether a slot of one is Cancelled after it.
-fn round_cancels<R: Abort + Wait>(rt: &R, movers: &mut Vec<Mover<'_, '_>>) -> bool {
-    let mut cancelled = false;
-    for mover in movers.iter_mut() {
-        mover.turn(rt);
-        cancelled |= has_cancelled(mover);
-    }
-    cancelled
-}
-
-// A write-back that was retried has nothing to write once a store of another agent has taken the line.
-#[test]
-fn a_retried_write_back_is_cancelled(rt: HostRuntime) {
-    let (node, requesters) = node_of(&rt, rt.alloc(), &eight_sizes(&rt));
-    let (tallies, scripts, _watcher) = opened(&rt, rt.alloc(), 8, &rival_scripts());
-    let guests = guests_of(&rt, rt.alloc(), &node, requesters);
-    let mut movers = movers_of(&rt, rt.alloc(), &tallies, guests, scripts);
-    let mut cancelled = false;
-    for _ in 0..100_000u32 {
-        if have_ended(&movers) {
-            break;
-        }
-        cancelled |= round_cancels(&rt, &mut movers);
-    }
-    assert!(rt; cancelled);
-    assert!(rt; have_finished(&movers));
 }

@@ -27,8 +27,4 @@ mod seen_lines;
 #[cfg(test)]
 mod tallies;
 #[cfg(test)]
-mod tellers;
-#[cfg(test)]
 mod watched;
-#[cfg(test)]
-mod windows;

@@ -1,4 +1,4 @@
-//! Scripts that are played turn by turn, by one agent on a line of its own.
+//! Scripts that are played turn by turn, by one agent on a line of its own, and their windows.
 
 ghost use Rattle.std.specs.Prelude.{◌≡◌, [], ◌∷◌};
 ghost use Rattle.chi_slice.specs.Words.{two_types};
@@ -79,16 +79,37 @@ const STORE: Task = Task::Store(WordNo(0), 7);
 
 const LOAD: Task = Task::Load(WordNo(0));
 
+/// A script, how many turns do something, the loads and stores that are done, and whether it has stopped.
+type Script = (&'static [Task], u32, (u64, u64), bool);
+
+const SCRIPTS: [Script; 2] = [
+    (
+        &[STORE, Task::WriteBack, LOAD, Task::Drop],
+        19,
+        (1, 1),
+        false,
+    ),
+    // the journal has room for two records; the load that is refused is a turn too
+    (&[STORE, LOAD, LOAD], 8, (1, 1), true),
+];
+
+/// Whether the script has ended so.
+fn ends(player: &Player<Global>, counts: (u64, u64), stopped: bool) -> bool {
+    player.has_ended()
+        && player.stopped == stopped
+        && player.has_finished() != stopped
+        && !player.not_open
+        && (player.loads, player.stores) == counts
+}
+
 #[test]
-fn a_script_is_played_to_its_end(rt: HostRuntime) {
-    let tasks = [STORE, Task::WriteBack, LOAD, Task::Drop];
-    let mut table = Table::new(&rt, rt.alloc(), &tasks);
-    assert!(rt; !table.player.has_ended());
-    assert_eq!(rt; table.turns(0), 19);
-    assert!(rt; table.player.has_ended());
-    assert!(rt; !table.player.stopped);
-    assert_eq!(rt; (table.player.loads, table.player.stores), (1, 1));
-    assert_eq!(rt; table.slice.journal().loads(), 1);
+fn scripts_are_played_to_their_ends(rt: HostRuntime) {
+    for (tasks, turns, counts, stopped) in &SCRIPTS {
+        let mut table = Table::new(&rt, rt.alloc(), tasks);
+        assert!(rt; !table.player.has_ended());
+        assert_eq!(rt; table.turns(0), *turns);
+        assert!(rt; ends(&table.player, *counts, *stopped), "{tasks:?}");
+    }
 }
 
 #[test]
@@ -99,19 +120,35 @@ fn the_word_picks_the_delivery(rt: HostRuntime) {
         assert!(rt; table.turn(0));
     }
     assert!(rt; table.turn(1));
-    let first = table.player.requester.slot(Slot(0));
-    let second = table.player.requester.slot(Slot(1));
-    assert_eq!(rt; first.state, SlotState::Idle);
-    assert_eq!(rt; second.state, SlotState::Sent);
+    let requester = &table.player.requester;
+    assert!(rt; requester.slot(Slot(0)).state == SlotState::Idle);
+    assert!(rt; requester.slot(Slot(1)).state == SlotState::Sent);
+}
+
+/// Nine drops on the lines 0 to 8.
+fn nine(rt: &impl Abort, alloc: Global) -> Operations<Global> {
+    let mut script = Vec::new(alloc);
+    for line in 0..9 {
+        let (line, task) = (Line(line), Task::Drop);
+        let operation = Operation { line, task };
+        script.push(operation).expect(rt, "memory for a script");
+    }
+    Operations::new(script)
+}
+
+/// Whether the eligible operations on the lines 3, 4, 7 and 8 have these places.
+fn are_eligible(operations: &Operations<Global>, places: [Option<usize>; 4]) -> bool {
+    let found = [3, 4, 7, 8].map(|line| operations.eligible(Line(line)).map(|place| place.0));
+    found == places
 }
 
 #[test]
-fn a_full_journal_stops_a_script(rt: HostRuntime) {
-    let mut table = Table::new(&rt, rt.alloc(), &[STORE, LOAD, LOAD]);
-    table.turns(0);
-    assert!(rt; table.player.stopped);
-    assert!(rt; !table.player.not_open);
-    assert!(rt; !table.player.has_finished());
-    assert!(rt; table.player.has_ended());
-    assert_eq!(rt; (table.player.loads, table.player.stores), (1, 1));
+fn the_window_has_eight_unfinished_operations(rt: HostRuntime) {
+    let mut operations = nine(&rt, rt.alloc());
+    assert!(&rt; are_eligible(&operations, [Some(3), Some(4), Some(7), None]));
+    let place = operations
+        .eligible(Line(3))
+        .expect(&rt, "line 3 is in the window");
+    operations.finish(place);
+    assert!(&rt; are_eligible(&operations, [None, Some(3), Some(6), Some(7)]));
 }

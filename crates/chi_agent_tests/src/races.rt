@@ -1,9 +1,8 @@
 //! A tally that is read while another thread stores it.
 
-ghost use Rattle.std.specs.Prelude.{◌≡◌, ◌<◌, length, map};
+ghost use Rattle.std.specs.Prelude.{◌≡◌, ◌<◌, Some, length, map, slice_get};
 ghost use Rattle.chi_audit.specs.Tallies.{reader_cell, IsFresh};
 
-use crate::tellers::{Teller, tally};
 use chi_audit::{Tallies, Tally, Watcher, Writer};
 use chi_flit::{Agent, NoMemory};
 use std::process::Abort;
@@ -31,6 +30,35 @@ struct Readings {
     torn: u64,
 }
 
+/// A writer beside the tallies.
+#[derive(Drop)]
+struct Teller<'t> {
+    tallies: &'t Tallies,
+    writer: Writer,
+    ghost fits: { slice_get tallies.now writer.agent ≡ Some writer.cell },
+}
+
+impl<'t> Teller<'t> {
+    /// A writer that stored nothing.
+    fn new(tallies: &'t Tallies, writer: Writer) -> Teller<'t>
+        requires { IsFresh tallies.now writer }
+    {
+        Teller { tallies, writer }
+    }
+
+    /// Stores a tally of which each number is this, which isn't below that of the last.
+    fn tell<R: Abort + Wait>(&mut self, rt: &R, number: u64) {
+        let last = self.writer.last();
+        assert!(rt; number >= last.turns && number >= last.loads && number >= last.stores);
+        let tally = Tally {
+            turns: number,
+            loads: number,
+            stores: number,
+        };
+        self.tallies.store(rt, &mut self.writer, tally);
+    }
+}
+
 /// Stores tallies of three equal numbers, one after the other, until enough readings met a store.
 fn stores<R: Abort + Wait>(rt: &R, tallies: &Tallies, writer: Writer, signs: &Signs)
     requires { IsFresh tallies.now writer }
@@ -40,7 +68,7 @@ fn stores<R: Abort + Wait>(rt: &R, tallies: &Tallies, writer: Writer, signs: &Si
         if signs.met.load(Ordering::SeqCst) >= ENOUGH {
             return;
         }
-        teller.tell(rt, tally(number, number, number));
+        teller.tell(rt, number);
         signs.stored.store(number, Ordering::SeqCst);
     }
 }

@@ -63,19 +63,6 @@ fn a_report_that_is_not_sent_leaves_its_place_empty(rt: HostRuntime) -> Result<(
 }
 
 #[test]
-fn what_the_inbox_is_told_is_what_it_gathers(rt: HostRuntime) -> Result<(), NoMemory> {
-    let (mut outboxes, mut inbox) = open_boxes(rt.alloc(), 1)?;
-    let outbox = outboxes.remove(0);
-    let agent = outbox.agent();
-    inbox.absorb(outbox.send(&rt, report(agent)));
-    let gathered = gather(&rt, 1, &mut inbox);
-    assert!(rt; gathered.complete);
-    assert_eq!(rt; gathered.reports[0], Some(report(Agent(0))));
-    assert_eq!(rt; inbox.receive(&rt), None);
-    Ok(())
-}
-
-#[test]
 fn a_report_is_sent_though_the_inbox_is_gone(rt: HostRuntime) -> Result<(), NoMemory> {
     let (mut outboxes, inbox) = open_boxes(rt.alloc(), 1)?;
     drop(inbox);

@@ -3,8 +3,8 @@
 ghost use Rattle.std.specs.Prelude.{◌≡◌, ◌<◌, length, map};
 ghost use Rattle.chi_audit.specs.Tallies.{reader_cell};
 
-use crate::bench::{eight_sizes, node_of, on, opened};
-use chi_agent::{Ended, OpenGate, run_agents};
+use crate::bench::{eight_sizes, node_of, on, ran};
+use chi_agent::{Ended, OpenGate};
 use chi_audit::{Report, Tallies, Watcher};
 use chi_flit::{Agent, Operation, Task, WordNo};
 use std::process::Abort;
@@ -50,13 +50,13 @@ fn report_of(agent: u8) -> Report {
 /// requester is its own, and it didn't meet refusal 11.
 fn is_told(ended: &Ended, agent: u8, wanted: Report) -> bool {
     let place = usize::from(agent);
-    let own = match ended.requesters.get(place) {
-        Some(requester) => requester.number().0 == agent,
+    let told = match ended.results.get(place) {
+        Some(left) => {
+            left.requester.number().0 == agent && left.report == wanted && !left.not_open
+        }
         None => false,
     };
-    own && ended.gathered.reports.get(place) == Some(&Some(wanted))
-        && ended.reports.get(place) == Some(&wanted)
-        && ended.not_open.get(place) == Some(&false)
+    told && ended.gathered.reports.get(place) == Some(&Some(wanted))
 }
 
 /// The tally of each agent has the loads and the stores of its report.
@@ -75,19 +75,16 @@ fn all_match<R: Abort + Wait>(rt: &R, tallies: &Tallies, watcher: &mut Watcher, 
 #[test]
 fn tallies_match_reports(rt: HostRuntime) {
     let (node, requesters) = node_of(&rt, rt.alloc(), &eight_sizes(&rt));
-    let (tallies, scripts, mut watcher) = opened(&rt, rt.alloc(), 8, &unequal_scripts());
-    let ran = run_agents(
+    let all = unequal_scripts();
+    let (ended, tallies, mut watcher) = ran(
         &rt,
         rt.alloc(),
         &node,
-        &tallies,
         requesters,
-        scripts,
-        7,
+        &all,
         10_000_000,
         &OpenGate,
     );
-    let ended = ran.expect(&rt, "memory and threads for agents");
     assert!(rt; ended.gathered.complete);
     all_match(&rt, &tallies, &mut watcher, &ended);
 }

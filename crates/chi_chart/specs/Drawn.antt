@@ -7,7 +7,7 @@ use Rattle.chi_flit.specs.Message.{channel_text, message_text}
 use Rattle.chi_flit.specs.State.{state_text}
 use Rattle.chi_slice.specs.Words.{Serving}
 use Rattle.chi_replay.specs.Replies.{serving_text}
-use Rattle.chi_script.specs.Headers.{is_from}
+use Rattle.chi_flit.specs.Config.{is_between}
 use Rattle.chi_chart.specs.declared.drawn.Sheet.{Sheet}
 use Rattle.chi_chart.specs.declared.drawn.SliceBox.{SliceBox}
 use Rattle.chi_chart.specs.declared.drawn.Lifeline.{Lifeline}
@@ -103,7 +103,7 @@ escaped_text bytes = flat_map escaped_byte bytes
 
 -- what a file has in words of its own is written in bytes that every reader shows: others are ?
 abbrev pub legible_byte : ℕ → ℕ
-legible_byte byte = if is_from 32 126 byte then byte else 63
+legible_byte byte = if is_between 32 126 byte then byte else 63
 
 abbrev pub legible_text : List ℕ → List ℕ
 legible_text bytes = flat_map (λ byte. escaped_byte (legible_byte byte)) bytes

@@ -1,9 +1,8 @@
 //! From the bytes of a file to the chart that is written.
 
-ghost use Rattle.std.specs.Prelude.{◌≡◌, ◌≢◌, ◌+◌, ◌^◌, ◌<◌, IfOk, IfErr, IfSome, OnOk, map, true};
+ghost use Rattle.std.specs.Prelude.{◌≡◌, ◌≢◌, ◌+◌, ◌^◌, ◌<◌, IfOk, IfErr, IfSome, OnOk, map};
 ghost use Rattle.std.specs.Io.KnownBytes.{Keeps};
 ghost use Rattle.chi_script.specs.Faults.{Fails};
-ghost use Rattle.chi_script.specs.Headers.{is_in_limits};
 ghost use Rattle.chi_replay.specs.Replays.{AtWrite, KeepsAtFault, NoText, NoTextAt, RefusesFault};
 ghost use Rattle.chi_script.specs.Checks.{line_of_check};
 ghost use Rattle.chi_script.specs.CheckFiles.{check_file_of};
@@ -14,21 +13,20 @@ use crate::headings::LeftLines;
 use crate::picture::svg_of;
 use crate::rows::{ChartPart, below_headings, rows_of};
 use chi_flit::NoMemory;
-use chi_replay::config_of;
 use chi_script::{
-    CheckFile, Failed, Fault, Header, Input, MOST_CHECK_BYTES, Output, read_checks, read_most,
+    CheckFile, Failed, Fault, Input, MOST_CHECK_BYTES, Output, read_checks, read_most,
 };
+use chi_slice::Config;
 use std::alloc::Allocator;
 
-/// How a chart of a node of a header's sizes is laid out.
-fn layout_of(header: &Header) -> Layout
-    requires { is_in_limits header.now ≡ true }
-    ensures { IsLayout header.now result }
+/// How a chart of a node of these sizes is laid out.
+fn layout_of(config: &Config) -> Layout
+    ensures { IsLayout config.now result }
 {
     Layout {
-        agents: header.agents,
-        lines: header.lines,
-        slices: header.slices,
+        agents: config.agents(),
+        lines: config.lines(),
+        slices: config.slices(),
     }
 }
 
@@ -46,11 +44,17 @@ fn chart_on<A: Allocator + Copy>(
         (λ text. IsChart bytes.now script.now.header
         (map line_of_check script.now.checks.items) part.now text.items) }
 {
-    let config = config_of(&script.header);
     let mut lines = LeftLines { bytes };
     let title = lines.headings(alloc)?;
     let top = below_headings(TOP, false, title.len())?;
-    let run = rows_of(alloc, &config, &script.checks, part, lines.bytes, top)?;
+    let run = rows_of(
+        alloc,
+        &script.header,
+        &script.checks,
+        part,
+        lines.bytes,
+        top,
+    )?;
     let layout = layout_of(&script.header);
     svg_of(alloc, layout, &title, run.place.y, &run.rows)
 }

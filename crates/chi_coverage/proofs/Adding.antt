@@ -12,12 +12,9 @@ use Rattle.chi_coverage.specs.declared.forms.CoverShape.{CoverShape}
 use Rattle.chi_coverage.specs.Counts.{count_at}
 use Rattle.chi_coverage.specs.Coverage.{cover_text, reached_of}
 use Rattle.chi_coverage.specs.Lists.{all_cells}
-use Rattle.chi_coverage.specs.Merging.{FileMerge, IsFileMerge, IsMergeReport, IsNoReport, IsReport, MayMerge, MergeCame, MergeGoesOn, MergeState, added, any_unadded, count_come, count_over, counts_with, is_unadded, no_report, sums, unadded_line, unread}
+use Rattle.chi_coverage.specs.Merging.{FileMerge, IsFileMerge, IsMergeReport, IsNoReport, IsReport, MayMerge, MergeCame, MergeGoesOn, MergeState, added, any_unadded, count_come, count_over, counts_with, is_unadded, merge_state, no_report, sums, unadded_line, unread}
 use Rattle.chi_coverage.specs.Places.{cell_place, place_count}
 use Rattle.chi_coverage.proofs.Covering.{all_alike, reached_alike, text_alike}
-
-abbrev pub merge_state : List ℕ → List ℕ → Bool → MergeState
-merge_state counts faults faulty = record { counts = counts; faults = faults; faulty = faulty }
 
 pub sums_length : (some others : List ℕ) → length some ≡ length others → length (sums some others) ≡ length some
 sums_length [] others e = refl

@@ -16,15 +16,12 @@ use Rattle.chi_replay.specs.Suites.{GivenFile, faulty_line, first_of, given, giv
 use Rattle.chi_coverage.specs.declared.cells.Cell.{Cell}
 use Rattle.chi_coverage.specs.declared.forms.CoverShape.{CoverShape}
 use Rattle.chi_coverage.specs.Cells.{is_unreachable}
-use Rattle.chi_coverage.specs.Counts.{CoverGoesOn, CoverState, IsCountedFile, count_at, cells_counted, cover_with}
+use Rattle.chi_coverage.specs.Counts.{CoverGoesOn, CoverState, IsCountedFile, count_at, cells_counted, cover_state, cover_with}
 use Rattle.chi_coverage.specs.Coverage.{CoverCame, covered, unread, FileCover, IsCoverReport, IsFileCover, MayCover, cells_covered, cover_fault, cover_fault_line, cover_lines, cover_text, first_cover_fault, framed, is_reachable, is_reached, line_of_cell, reached_of, times_met, cell_line, unreachable_text}
 use Rattle.chi_coverage.specs.Lists.{all_cells}
 use Rattle.chi_coverage.specs.Places.{place_count}
 use Rattle.chi_coverage.proofs.Counting.{counted_append}
 use Rattle.chi_coverage.proofs.Placing.{counted_length, counted_times}
-
-abbrev pub cover_state : List ℕ → List ℕ → Option Fault → CoverState
-cover_state counts faults fault = record { counts = counts; faults = faults; fault = fault }
 
 state_same : (a a' b b' : List ℕ) (c c' : Option Fault) → a ≡ a' → b ≡ b' → c ≡ c' → cover_state a b c ≡ cover_state a' b' c'
 state_same a a' b b' c c' e f g = cc (e, f, g)

@@ -14,7 +14,7 @@ use Rattle.chi_script.specs.Words.{number_of}
 use Rattle.chi_script.proofs.NumberLemmas.{number_again}
 use Rattle.chi_coverage.specs.declared.cells.Cell.{Cell}
 use Rattle.chi_coverage.specs.declared.cells.Cell.TheVariants as cells
-use Rattle.chi_coverage.specs.declared.cells.Verb.TheVariants as verbs
+use Rattle.chi_script.specs.declared.verbs.Verb.TheVariants as verbs
 use Rattle.chi_coverage.specs.declared.forms.CoverForm.{CoverForm}
 use Rattle.chi_coverage.specs.declared.forms.CoverForm.TheVariants.{Lines, Json, Tsv}
 use Rattle.chi_coverage.specs.Cells.{cell_text, is_unreachable, section_text}

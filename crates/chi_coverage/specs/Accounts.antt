@@ -1,39 +1,39 @@
 -- What the answers so far show of an agent's account, by credit type: its seen credits, which are those that its latest `see`
 -- showed, less one for each spent or given back; and its Riding and its Cancelled slots (docs/FORMATS.md, "The text of a
 -- replay"; docs/PROTOCOL.md, "Slots and accounts"). And the cells that it shows ("A requester and its calls").
-use Rattle.std.specs.Prelude.{ℕ, ◌+◌, ◌-◌, ◌==◌, nat_lt, List, Bool, true, false, ◌||◌, Option, Some, None, replicate, slice_index, slice_set, if◌then◌else◌}
+use Rattle.std.specs.Prelude.{ℕ, ◌+◌, ◌-◌, ◌==◌, nat_lt, List, Bool, true, false, Option, Some, None, count_by, replicate, slice_index, slice_set, if◌then◌else◌}
+use Rattle.std.specs.List.{list_any}
 use Rattle.chi_flit.specs.declared.credit.CreditType.{CreditType}
 use Rattle.chi_flit.specs.declared.credit.Profile.{Profile}
 use Rattle.chi_flit.specs.declared.message.Request.{Request}
 use Rattle.chi_flit.specs.declared.refusal.Refusal.{Refusal}
 use Rattle.chi_flit.specs.declared.refusal.Refusal.TheVariants as refusals
-use Rattle.chi_flit.specs.Credit.{credit_type_of}
+use Rattle.chi_flit.specs.Credit.{credit_number, credit_type_of}
 use Rattle.chi_slice.specs.Words.{Pending}
 use Rattle.chi_replay.specs.declared.replies.Reply.{Reply}
 use Rattle.chi_replay.specs.declared.replies.Reply.TheVariants as replies
 use Rattle.chi_coverage.specs.declared.accounts.AccountView.{AccountView}
 use Rattle.chi_coverage.specs.declared.cells.Cell.{Cell}
 use Rattle.chi_coverage.specs.declared.cells.Cell.TheVariants as cells
-use Rattle.chi_coverage.specs.declared.cells.Verb.{Verb}
-use Rattle.chi_coverage.specs.declared.cells.Verb.TheVariants as verbs
+use Rattle.chi_script.specs.declared.verbs.Verb.{Verb}
+use Rattle.chi_script.specs.declared.verbs.Verb.TheVariants as verbs
 use Rattle.chi_coverage.specs.declared.requester_cells.CreditsFound.{CreditsFound}
 use Rattle.chi_coverage.specs.declared.requester_cells.CreditsFound.TheVariants as founds
 use Rattle.chi_coverage.specs.declared.requester_cells.RequesterCell.TheVariants as requester_cells
 use Rattle.chi_coverage.specs.declared.scenes.Scene.{Scene}
-use Rattle.chi_coverage.specs.Places.{bool_place, credit_place}
 
 abbrev pub no_account : AccountView
 no_account = record { seen = replicate 4 0; riding = replicate 4 0; cancelled = replicate 4 0 }
 
 abbrev pub count_at_type : List ℕ → CreditType → ℕ
-count_at_type numbers ty = slice_index numbers (credit_place ty)
+count_at_type numbers ty = slice_index numbers (credit_number ty)
 
 -- one more of a type, and one less
 abbrev pub one_credit_more : List ℕ → CreditType → List ℕ
-one_credit_more numbers ty = slice_set numbers (credit_place ty) (count_at_type numbers ty + 1)
+one_credit_more numbers ty = slice_set numbers (credit_number ty) (count_at_type numbers ty + 1)
 
 abbrev pub one_less : List ℕ → CreditType → List ℕ
-one_less numbers ty = slice_set numbers (credit_place ty) (count_at_type numbers ty - 1)
+one_less numbers ty = slice_set numbers (credit_number ty) (count_at_type numbers ty - 1)
 
 -- the numbers of a `see`
 abbrev pub credits_in : Reply → List ℕ
@@ -49,20 +49,18 @@ has_cancelled account ty = nat_lt 0 (count_at_type account.cancelled ty)
 
 -- what a call leaves that is done, a row each: see, resend, cancel, arrive of a resent request, give back
 abbrev pub after_see : Reply → AccountView → AccountView
-after_see reply account = record { seen = credits_in reply; riding = account.riding; cancelled = account.cancelled }
+after_see reply account = record account { seen = credits_in reply }
 
 abbrev pub after_resend : Profile → Option Pending → AccountView → AccountView
 after_resend profile None account = account
-after_resend profile (Some pending) account =
-    record { seen = account.seen; riding = one_credit_more account.riding (credit_type_of profile pending.kind); cancelled = account.cancelled }
+after_resend profile (Some pending) account = record account { riding = one_credit_more account.riding (credit_type_of profile pending.kind) }
 
 abbrev pub after_cancel : Profile → Option Pending → AccountView → AccountView
 after_cancel profile None account = account
-after_cancel profile (Some pending) account =
-    record { seen = account.seen; riding = account.riding; cancelled = one_credit_more account.cancelled (credit_type_of profile pending.kind) }
+after_cancel profile (Some pending) account = record account { cancelled = one_credit_more account.cancelled (credit_type_of profile pending.kind) }
 
 abbrev pub after_spend : CreditType → AccountView → AccountView
-after_spend ty account = record { seen = one_less account.seen ty; riding = one_less account.riding ty; cancelled = account.cancelled }
+after_spend ty account = record account { seen = one_less account.seen ty; riding = one_less account.riding ty }
 
 abbrev pub after_arrival : Profile → Option Request → AccountView → AccountView
 after_arrival profile None account = account
@@ -70,7 +68,7 @@ after_arrival profile (Some request) account = if request.allow_retry then accou
 
 abbrev pub after_return : Option CreditType → AccountView → AccountView
 after_return None account = account
-after_return (Some ty) account = record { seen = one_less account.seen ty; riding = account.riding; cancelled = one_less account.cancelled ty }
+after_return (Some ty) account = record account { seen = one_less account.seen ty; cancelled = one_less account.cancelled ty }
 
 abbrev pub told_account_after : Verb → Profile → Option CreditType → Option Scene → Reply → AccountView → AccountView
 told_account_after verbs.See profile ty before reply account = after_see reply account
@@ -81,17 +79,11 @@ told_account_after verbs.Arrive profile ty (Some scene) reply account = after_ar
 told_account_after verb profile ty before reply account = account
 
 -- what a `see` finds: nothing, one credit, two of a type, or one each of several types
-abbrev pub some_place : List ℕ → ℕ → ℕ
-some_place numbers ty = bool_place (nat_lt 0 (slice_index numbers ty))
+abbrev pub has_two : List ℕ → Bool
+has_two numbers = list_any (λ number. nat_lt 1 number) numbers
 
 abbrev pub types_seen : List ℕ → ℕ
-types_seen numbers = some_place numbers 0 + some_place numbers 1 + some_place numbers 2 + some_place numbers 3
-
-abbrev pub is_two : List ℕ → ℕ → Bool
-is_two numbers ty = nat_lt 1 (slice_index numbers ty)
-
-abbrev pub has_two : List ℕ → Bool
-has_two numbers = is_two numbers 0 || (is_two numbers 1 || (is_two numbers 2 || is_two numbers 3))
+types_seen numbers = count_by (λ number. nat_lt 0 number) numbers
 
 abbrev pub found_in : List ℕ → CreditsFound
 found_in numbers = if has_two numbers then founds.TwoOfAType else (

@@ -14,8 +14,8 @@ use Rattle.chi_slice.specs.Servings as servings
 use Rattle.chi_coverage.specs.declared.cells.Cell.{Cell}
 use Rattle.chi_coverage.specs.declared.cells.Cell.TheVariants as cells
 use Rattle.chi_coverage.specs.declared.cells.Form.TheVariants as forms
-use Rattle.chi_coverage.specs.declared.cells.Verb.{Verb}
-use Rattle.chi_coverage.specs.declared.cells.Verb.TheVariants as verbs
+use Rattle.chi_script.specs.declared.verbs.Verb.{Verb}
+use Rattle.chi_script.specs.declared.verbs.Verb.TheVariants as verbs
 use Rattle.chi_coverage.specs.declared.scenes.OwnerSeen.{OwnerSeen}
 use Rattle.chi_coverage.specs.declared.scenes.OwnerSeen.TheVariants as owners
 use Rattle.chi_coverage.specs.declared.scenes.Scene.{Scene}

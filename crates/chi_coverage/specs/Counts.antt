@@ -2,11 +2,9 @@
 use Rattle.std.specs.Prelude.{◌≡◌, ℕ, Bool, ◌+◌, ◌++◌, List, [], ◌∷◌, Ok, Option, slice_index, slice_set}
 use Rattle.chi_script.specs.declared.commands.Command.{Command}
 use Rattle.chi_script.specs.declared.faults.Fault.{Fault}
-use Rattle.chi_script.specs.declared.headers.Header.{Header}
 use Rattle.chi_script.specs.Checks.{CheckLine}
 use Rattle.chi_script.specs.CheckFiles.{check_file_of}
 use Rattle.chi_coverage.specs.Fillers.{fillers_of}
-use Rattle.chi_script.specs.Headers.{node_sizes}
 use Rattle.chi_replay.specs.Checks.{commands_in}
 use Rattle.chi_node.specs.System.{SystemState}
 use Rattle.chi_replay.specs.declared.replies.Reply.{Reply}
@@ -44,21 +42,21 @@ pub record IsCountedRun (config : Sizes) (fillers : List Bool) (all : List Check
   pub allowed : MayAnswer (machine_at_start config) (opening_ports config) (commands_in all) answers
   pub is : after ≡ cells_counted before (cells_of_steps config no_past (played_steps fillers (machine_at_start config) all answers))
 
--- so of the commands of a header and checks, and of a good file
-abbrev pub IsCountedScript : Header → List Bool → List CheckLine → List ℕ → List ℕ → Type 0
-IsCountedScript header fillers checks before after = IsCountedRun (node_sizes header) fillers checks before after
-
+-- so of the commands of a good file
 pub record IsCountedFile (file : List ℕ) (before after : List ℕ) : Type 0 where
-  pub header : Header
+  pub header : Sizes
   pub checks : List CheckLine
   pub good : check_file_of file ≡ Ok (header, checks)
-  pub run : IsCountedScript header (fillers_of file) checks before after
+  pub run : IsCountedRun header (fillers_of file) checks before after
 
 -- what was counted and told of the files so far
 pub record CoverState : Type 0 where
   pub counts : List ℕ
   pub faults : List ℕ
   pub fault : Option Fault
+
+abbrev pub cover_state : List ℕ → List ℕ → Option Fault → CoverState
+cover_state counts faults fault = record { counts = counts; faults = faults; fault = fault }
 
 -- one file more
 abbrev pub cover_with : List ℕ → CoverState → CoverCame → CoverState

@@ -7,12 +7,10 @@ use Rattle.chi_flit.specs.declared.refusal.Refusal.{Refusal}
 use Rattle.chi_script.specs.declared.commands.Command.{Command}
 use Rattle.chi_script.specs.declared.faults.Fault.{Fault}
 use Rattle.chi_script.specs.declared.faults.Fault.TheVariants as faults
-use Rattle.chi_script.specs.declared.headers.Header.{Header}
 use Rattle.chi_script.specs.Checks.{CheckLine}
 use Rattle.chi_script.specs.CheckFiles.{check_file_of}
 use Rattle.chi_script.specs.Files.{IsOneLine}
 use Rattle.chi_coverage.specs.Fillers.{fillers_of, is_filler}
-use Rattle.chi_script.specs.Headers.{node_sizes}
 use Rattle.chi_slice.specs.Words.{line_view, LineView, Sizes}
 use Rattle.chi_node.specs.Home.{HomeState, node_last, node_line, node_view_refusal}
 use Rattle.chi_replay.specs.Checks.{commands_in}
@@ -99,12 +97,12 @@ times_met cell cells = length (filter (is_cell cell) cells)
 -- the cells of a good file's steps, but of its filler: its commands were played on a new node of its header's size, under
 -- answers that the tracker may give
 pub record IsCovered (file : List ℕ) (cells : List Cell) : Type 0 where
-  pub header : Header
+  pub header : Sizes
   pub checks : List CheckLine
   pub good : check_file_of file ≡ Ok (header, checks)
   pub answers : List TurnAnswer
-  pub allowed : MayAnswer (machine_at_start (node_sizes header)) (opening_ports (node_sizes header)) (commands_in checks) answers
-  pub are : cells ≡ cells_of_steps (node_sizes header) no_past (played_steps (fillers_of file) (machine_at_start (node_sizes header)) checks answers)
+  pub allowed : MayAnswer (machine_at_start header) (opening_ports header) (commands_in checks) answers
+  pub are : cells ≡ cells_of_steps header no_past (played_steps (fillers_of file) (machine_at_start header) checks answers)
 
 -- what comes of a file: the cells of its steps, or its fault, and a hint, which is what more is told of it
 pub data CoverCame : Type 0 where

@@ -6,8 +6,8 @@ use Rattle.chi_flit.specs.declared.refusal.Refusal.TheVariants as refusals
 use Rattle.chi_slice.specs.Words.{Sizes}
 use Rattle.chi_coverage.specs.declared.cells.Cell.{Cell}
 use Rattle.chi_coverage.specs.declared.cells.Cell.TheVariants as cells
-use Rattle.chi_coverage.specs.declared.cells.Verb.{Verb}
-use Rattle.chi_coverage.specs.declared.cells.Verb.TheVariants as verbs
+use Rattle.chi_script.specs.declared.verbs.Verb.{Verb}
+use Rattle.chi_script.specs.declared.verbs.Verb.TheVariants as verbs
 use Rattle.chi_coverage.specs.declared.journals.JournalView.{JournalView}
 use Rattle.chi_coverage.specs.declared.situations.Situation.TheVariants as situations
 use Rattle.chi_coverage.specs.Cells.{cell_if}

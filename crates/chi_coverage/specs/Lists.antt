@@ -19,8 +19,8 @@ use Rattle.chi_coverage.specs.declared.cells.Shown.{Shown}
 use Rattle.chi_coverage.specs.declared.cells.Shown.TheVariants as showns
 use Rattle.chi_coverage.specs.declared.cells.Stage.{Stage}
 use Rattle.chi_coverage.specs.declared.cells.Stage.TheVariants as stages
-use Rattle.chi_coverage.specs.declared.cells.Verb.{Verb}
-use Rattle.chi_coverage.specs.declared.cells.Verb.TheVariants as verbs
+use Rattle.chi_script.specs.declared.verbs.Verb.{Verb}
+use Rattle.chi_script.specs.declared.verbs.Verb.TheVariants as verbs
 use Rattle.chi_coverage.specs.declared.requester_cells.Arrival.TheVariants as arrivals
 use Rattle.chi_coverage.specs.declared.requester_cells.CreditsFound.{CreditsFound}
 use Rattle.chi_coverage.specs.declared.requester_cells.CreditsFound.TheVariants as founds
@@ -32,9 +32,12 @@ use Rattle.chi_coverage.specs.declared.situations.Situation.TheVariants as situa
 abbrev pub pairs : {A B C : Type 0} → (A → B → C) → List A → List B → List C
 pairs make rows columns = flat_map (λ row. map (make row) columns) rows
 
--- each of some with those of its own row
+-- each of some with those of its own row, by a table or by what a row has
 abbrev pub pairs_of : {A B C : Type 0} → (A → B → C) → List (A × List B) → List C
 pairs_of make table = flat_map (λ row. map (make row.0) row.1) table
+
+abbrev pub rows_of : {A B C : Type 0} → (A → B → C) → (A → List B) → List A → List C
+rows_of make columns rows = flat_map (λ row. map (make row) (columns row)) rows
 
 abbrev pub every_state : List State
 every_state = I ∷ SC ∷ UC ∷ UD ∷ SD ∷ []
@@ -68,23 +71,15 @@ refused_table =
     ∷ (verbs.Drop, reasons.Agent ∷ reasons.Line ∷ reasons.Pending ∷ (reasons.State I) ∷ (reasons.State UD) ∷ (reasons.State SD) ∷ [])
     ∷ (verbs.Issue, reasons.Agent ∷ reasons.Line ∷ reasons.Slot ∷ reasons.Pending ∷ reasons.SlotInUse ∷ [])
     ∷ (verbs.Start, reasons.Agent ∷ reasons.Line ∷ reasons.NotWaiting ∷ reasons.Snooping ∷ reasons.CompAck ∷ reasons.WriteData ∷ [])
-    ∷ (verbs.Arrive, reasons.Agent ∷ reasons.Line ∷ reasons.NoFlit ∷ [])
-    ∷ (verbs.Snp, reasons.Agent ∷ reasons.Line ∷ reasons.NoFlit ∷ [])
-    ∷ (verbs.SnpResp, reasons.Agent ∷ reasons.Line ∷ reasons.NoFlit ∷ [])
-    ∷ (verbs.RetryAck, reasons.Agent ∷ reasons.Line ∷ reasons.NoFlit ∷ [])
-    ∷ (verbs.Data, reasons.Agent ∷ reasons.Line ∷ reasons.NoFlit ∷ [])
-    ∷ (verbs.Comp, reasons.Agent ∷ reasons.Line ∷ reasons.NoFlit ∷ [])
-    ∷ (verbs.Dbid, reasons.Agent ∷ reasons.Line ∷ reasons.NoFlit ∷ [])
-    ∷ (verbs.Ack, reasons.Agent ∷ reasons.Line ∷ reasons.NoFlit ∷ [])
-    ∷ (verbs.WrData, reasons.Agent ∷ reasons.Line ∷ reasons.NoFlit ∷ [])
-    ∷ (verbs.Resend, reasons.Agent ∷ reasons.Line ∷ reasons.NothingPending ∷ reasons.NotRetried ∷ reasons.Resent ∷ reasons.NotSendable ∷ reasons.NoCredit ∷ [])
+    ∷ (map (λ verb. (verb, reasons.Agent ∷ reasons.Line ∷ reasons.NoFlit ∷ [])) (verbs.Arrive ∷ verbs.Snp ∷ verbs.SnpResp ∷ verbs.RetryAck ∷ verbs.Data ∷ verbs.Comp ∷ verbs.Dbid ∷ verbs.Ack ∷ verbs.WrData ∷ [])
+    ++ (verbs.Resend, reasons.Agent ∷ reasons.Line ∷ reasons.NothingPending ∷ reasons.NotRetried ∷ reasons.Resent ∷ reasons.NotSendable ∷ reasons.NoCredit ∷ [])
     ∷ (verbs.Cancel, reasons.Agent ∷ reasons.Line ∷ reasons.NothingPending ∷ reasons.NotRetried ∷ reasons.Resent ∷ reasons.NotCopyBack ∷ reasons.Sendable ∷ [])
     ∷ (verbs.See, reasons.Agent ∷ [])
     ∷ (verbs.GiveBack, reasons.Agent ∷ reasons.Type ∷ [])
     ∷ (verbs.Tend, reasons.Agent ∷ reasons.Type ∷ [])
     ∷ (verbs.Flits, reasons.Agent ∷ reasons.Line ∷ [])
     ∷ (verbs.Show, reasons.Line ∷ [])
-    ∷ []
+    ∷ [])
 
 -- the states in which loads, stores and drops are done
 abbrev pub done_table : List (Verb × List State)
@@ -127,7 +122,7 @@ answer_table =
     ∷ []
 
 abbrev pub answered_cells : List Cell
-answered_cells = flat_map (λ row. pairs (λ form last. cells.Answer form row.0 last) row.1 both) answer_table ++ pairs cells.AnswerOf every_answer both
+answered_cells = flat_map (λ row. pairs (cells.Answer row.0) row.1 both) answer_table ++ pairs cells.AnswerOf every_answer both
 
 abbrev pub completion_table : List (Kind × Form)
 completion_table = (ReadNotSharedDirty, (forms.CompData true)) ∷ (ReadNotSharedDirty, (forms.CompData false)) ∷ (ReadShared, (forms.CompData true)) ∷ (ReadShared, (forms.CompData false)) ∷ (ReadUnique, (forms.CompData true)) ∷ (CleanUnique, forms.CompUC) ∷ []
@@ -136,25 +131,30 @@ abbrev pub completed_cells : List Cell
 completed_cells = flat_map (λ row. map (cells.Completion row.0 row.1) (false ∷ true ∷ [])) completion_table
     ++ map cells.Situation (situations.SharedData ∷ situations.MemoryBehindShared ∷ situations.ReadBehindPassed ∷ situations.WriteBesideOwner ∷ [])
 
+-- the states of a copy in which a request of the kind is sent again that was retried, and in which it isn't
+abbrev pub resent_states : Kind → List State
+resent_states CleanUnique = SC ∷ SD ∷ I ∷ []
+resent_states WriteBackFull = UD ∷ SD ∷ []
+resent_states WriteCleanFull = UD ∷ SD ∷ []
+resent_states WriteEvictFull = UC ∷ []
+resent_states other = I ∷ []
+
+abbrev pub cancelled_states : Kind → List State
+cancelled_states WriteBackFull = SC ∷ I ∷ []
+cancelled_states WriteCleanFull = SC ∷ I ∷ []
+cancelled_states WriteEvictFull = SC ∷ I ∷ []
+cancelled_states other = []
+
 -- the states of a copy while a request of the kind is pending ("What a line keeps")
-abbrev pub crossed_table : List (Kind × List State)
-crossed_table =
-    (ReadNotSharedDirty, I ∷ [])
-    ∷ (ReadShared, I ∷ [])
-    ∷ (ReadUnique, I ∷ [])
-    ∷ (CleanUnique, SC ∷ SD ∷ I ∷ [])
-    ∷ (Evict, I ∷ [])
-    ∷ (WriteBackFull, UD ∷ SD ∷ SC ∷ I ∷ [])
-    ∷ (WriteCleanFull, UD ∷ SD ∷ SC ∷ I ∷ [])
-    ∷ (WriteEvictFull, UC ∷ SC ∷ I ∷ [])
-    ∷ []
+abbrev pub crossed_states : Kind → List State
+crossed_states kind = resent_states kind ++ cancelled_states kind
 
 abbrev pub every_stage : List Stage
 every_stage = stages.Sent ∷ stages.RetryAck ∷ stages.Retried ∷ stages.Resent ∷ stages.Waiting ∷ []
 
 abbrev pub snooped_cells : List Cell
-snooped_cells = pairs (λ snoop state. cells.Snooped state snoop) every_snoop every_state
-    ++ (flat_map (λ snoop. pairs_of (cells.Crossed snoop) crossed_table) every_snoop ++ pairs cells.CrossedAt every_kind every_stage)
+snooped_cells = pairs cells.Snooped every_snoop every_state
+    ++ (flat_map (λ snoop. rows_of (cells.Crossed snoop) crossed_states every_kind) every_snoop ++ pairs cells.CrossedAt every_kind every_stage)
 
 abbrev pub written_cells : List Cell
 written_cells = pairs cells.WriteAsked write_kinds every_state ++ (pairs cells.WriteTaken write_kinds every_state
@@ -176,33 +176,13 @@ abbrev pub size_cells : List Cell
 size_cells = map cells.Types (Two ∷ Four ∷ [])
     ++ map cells.Situation (situations.OtherSlice ∷ situations.EightAgents ∷ situations.IssueBehindAck ∷ situations.IssueBehindWrite ∷ [])
 
--- the states in which a request that was retried is sent again, and in which it isn't
-abbrev pub resent_table : List (Kind × List State)
-resent_table =
-    (ReadNotSharedDirty, I ∷ [])
-    ∷ (ReadShared, I ∷ [])
-    ∷ (ReadUnique, I ∷ [])
-    ∷ (CleanUnique, SC ∷ SD ∷ I ∷ [])
-    ∷ (Evict, I ∷ [])
-    ∷ (WriteBackFull, UD ∷ SD ∷ [])
-    ∷ (WriteCleanFull, UD ∷ SD ∷ [])
-    ∷ (WriteEvictFull, UC ∷ [])
-    ∷ []
-
-abbrev pub cancelled_table : List (Kind × List State)
-cancelled_table =
-    (WriteBackFull, SC ∷ I ∷ [])
-    ∷ (WriteCleanFull, SC ∷ I ∷ [])
-    ∷ (WriteEvictFull, SC ∷ I ∷ [])
-    ∷ []
-
 abbrev pub every_find : List CreditsFound
 every_find = founds.Nothing ∷ founds.One ∷ founds.TwoOfAType ∷ founds.SeveralTypes ∷ []
 
 abbrev pub call_cells : List RequesterCell
 call_cells = pairs requester_cells.Arrive every_kind (arrivals.Admitted ∷ arrivals.Retried ∷ arrivals.Resent ∷ [])
-    ++ (pairs_of requester_cells.Resend resent_table ++ (pairs_of requester_cells.ResendRefused cancelled_table
-    ++ (pairs_of requester_cells.Cancel cancelled_table ++ (map requester_cells.CancelRefused every_kind
+    ++ (rows_of requester_cells.Resend resent_states every_kind ++ (rows_of requester_cells.ResendRefused cancelled_states every_kind
+    ++ (rows_of requester_cells.Cancel cancelled_states every_kind ++ (map requester_cells.CancelRefused every_kind
     ++ (pairs requester_cells.RetryTaken every_kind both ++ map requester_cells.Seen every_find)))))
 
 abbrev pub released_cells : List Cell

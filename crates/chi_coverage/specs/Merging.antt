@@ -98,6 +98,9 @@ pub record MergeState : Type 0 where
   pub faults : List ℕ
   pub faulty : Bool
 
+abbrev pub merge_state : List ℕ → List ℕ → Bool → MergeState
+merge_state counts faults faulty = record { counts = counts; faults = faults; faulty = faulty }
+
 abbrev pub counts_with : List ℕ → MergeCame → List ℕ
 counts_with old (added counts) = sums old counts
 counts_with old unread = old

@@ -1,5 +1,5 @@
 -- The cells of the messages that a `flits` shows (docs/PROTOCOL.md, "Messages").
-use Rattle.std.specs.Prelude.{List, [], ◌∷◌, Bool, ◌&&◌, is_none, Option, Some, None}
+use Rattle.std.specs.Prelude.{List, [], ◌∷◌, Option, Some, None}
 use Rattle.chi_flit.specs.declared.message.Channel.{Channel}
 use Rattle.chi_flit.specs.declared.message.Channel.TheVariants as channels
 use Rattle.chi_flit.specs.declared.message.DatUp.TheVariants as dat_ups
@@ -13,13 +13,13 @@ use Rattle.chi_coverage.specs.declared.cells.Cell.{Cell}
 use Rattle.chi_coverage.specs.declared.cells.Cell.TheVariants as cells
 use Rattle.chi_coverage.specs.declared.cells.Form.{Form}
 use Rattle.chi_coverage.specs.declared.cells.Form.TheVariants as forms
-use Rattle.chi_coverage.specs.declared.cells.Verb.{Verb}
-use Rattle.chi_coverage.specs.declared.cells.Verb.TheVariants as verbs
+use Rattle.chi_script.specs.declared.verbs.Verb.{Verb}
+use Rattle.chi_script.specs.declared.verbs.Verb.TheVariants as verbs
 use Rattle.chi_coverage.specs.declared.scenes.Scene.{Scene}
 use Rattle.chi_coverage.specs.declared.named.Named.{Named}
 use Rattle.chi_coverage.specs.declared.situations.Situation.TheVariants as situations
 use Rattle.chi_replay.specs.declared.replies.Reply.{Reply}
-use Rattle.chi_replay.specs.Replies.{refusal_in}
+use Rattle.chi_replay.specs.Replies.{has_none, messages_in, refusal_in}
 use Rattle.chi_coverage.specs.Cells.{cell_if}
 
 -- "Messages": the form of a message, and those that a `flits` shows
@@ -46,13 +46,10 @@ cell_of_message (Some message) = Some (cells.Message (message_form message))
 abbrev pub message_cell : Cells → Channel → Option Cell
 message_cell flits channel = cell_of_message (cell_of flits channel)
 
-abbrev pub is_flight_empty : Cells → Bool
-is_flight_empty flits = is_none flits.req && (is_none flits.snp && (is_none flits.rsp_down && (is_none flits.dat_down && (is_none flits.rsp_up && is_none flits.dat_up))))
-
 abbrev pub flight_cells : Cells → List (Option Cell)
 flight_cells flits =
     message_cell flits channels.Req ∷ message_cell flits channels.Snp ∷ message_cell flits channels.RspDown ∷ message_cell flits channels.DatDown
-    ∷ message_cell flits channels.RspUp ∷ message_cell flits channels.DatUp ∷ cell_if (is_flight_empty flits) (cells.Situation situations.NoMessage) ∷ []
+    ∷ message_cell flits channels.RspUp ∷ message_cell flits channels.DatUp ∷ cell_if (has_none (messages_in flits)) (cells.Situation situations.NoMessage) ∷ []
 
 abbrev pub no_messages : List (Option Cell)
 no_messages = None ∷ None ∷ None ∷ None ∷ None ∷ None ∷ None ∷ []

@@ -12,8 +12,8 @@ use Rattle.chi_replay.specs.declared.replies.Reply.TheVariants as replies
 use Rattle.chi_replay.specs.Replies.{refusal_in}
 use Rattle.chi_coverage.specs.declared.cells.Cell.{Cell}
 use Rattle.chi_coverage.specs.declared.cells.Cell.TheVariants as cells
-use Rattle.chi_coverage.specs.declared.cells.Verb.{Verb}
-use Rattle.chi_coverage.specs.declared.cells.Verb.TheVariants as verbs
+use Rattle.chi_script.specs.declared.verbs.Verb.{Verb}
+use Rattle.chi_script.specs.declared.verbs.Verb.TheVariants as verbs
 use Rattle.chi_coverage.specs.declared.scenes.Scene.{Scene}
 use Rattle.chi_coverage.specs.declared.named.Named.{Named}
 use Rattle.chi_coverage.specs.declared.situations.Situation.TheVariants as situations

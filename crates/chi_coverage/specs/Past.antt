@@ -10,7 +10,7 @@ use Rattle.chi_replay.specs.declared.replies.Reply.{Reply}
 use Rattle.chi_replay.specs.Replies.{refusal_in}
 use Rattle.chi_coverage.specs.declared.accounts.AccountView.{AccountView}
 use Rattle.chi_coverage.specs.declared.cells.Cell.{Cell}
-use Rattle.chi_coverage.specs.declared.cells.Verb.{Verb}
+use Rattle.chi_script.specs.declared.verbs.Verb.{Verb}
 use Rattle.chi_coverage.specs.declared.journals.JournalView.{JournalView}
 use Rattle.chi_coverage.specs.declared.named.Named.{Named}
 use Rattle.chi_coverage.specs.declared.past.Past.{Past}
@@ -23,46 +23,33 @@ use Rattle.chi_coverage.specs.Sharing.{data_cell, no_sharing, passed_cell, shari
 abbrev pub no_past : Past
 no_past = record { accounts = replicate 8 no_account; journals = replicate 8 no_journal; lines = replicate 64 no_sharing }
 
--- an agent's account, a line's journal, and a line
+-- an agent's account, the journal of a number, and what dirty data has done at a line
 abbrev pub account_of : Past → Agent → AccountView
-account_of past agent = if nat_lt agent.0 8 then slice_index_or past.accounts agent.0 no_account else no_account
+account_of past agent = slice_index_or past.accounts agent.0 no_account
 
 abbrev pub journal_number : Sizes → Line → ℕ
 journal_number sizes l = l.0 % sizes.slices
 
 abbrev pub journal_at : Past → ℕ → JournalView
-journal_at past n = if nat_lt n 8 then slice_index_or past.journals n no_journal else no_journal
+journal_at past n = slice_index_or past.journals n no_journal
 
 abbrev pub sharing_of : Past → Line → Sharing
-sharing_of past l = if nat_lt l.0 64 then slice_index_or past.lines l.0 no_sharing else no_sharing
-
--- they become others
-abbrev pub with_told_account : Past → Agent → AccountView → Past
-with_told_account past agent account =
-    if nat_lt agent.0 8 then record { accounts = slice_set past.accounts agent.0 account; journals = past.journals; lines = past.lines } else past
-
-abbrev pub with_journal : Past → ℕ → JournalView → Past
-with_journal past n journal =
-    if nat_lt n 8 then record { accounts = past.accounts; journals = slice_set past.journals n journal; lines = past.lines } else past
-
-abbrev pub with_sharing : Past → Line → Sharing → Past
-with_sharing past l line =
-    if nat_lt l.0 64 then record { accounts = past.accounts; journals = past.journals; lines = slice_set past.lines l.0 line } else past
+sharing_of past l = slice_index_or past.lines l.0 no_sharing
 
 -- after a step that is done, in each of the three
 abbrev pub with_agent_step : Profile → Named → Option Scene → Reply → Option Agent → Past → Past
 with_agent_step profile named before reply None past = past
 with_agent_step profile named before reply (Some agent) past =
-    with_told_account past agent (told_account_after named.verb profile named.credit before reply (account_of past agent))
+    record past { accounts = slice_set past.accounts agent.0 (told_account_after named.verb profile named.credit before reply (account_of past agent)) }
 
 abbrev pub with_journal_step : Sizes → Verb → Option Line → Past → Past
 with_journal_step sizes verb None past = past
 with_journal_step sizes verb (Some l) past =
-    with_journal past (journal_number sizes l) (journal_after verb (journal_at past (journal_number sizes l)))
+    record past { journals = slice_set past.journals (journal_number sizes l) (journal_after verb (journal_at past (journal_number sizes l))) }
 
 abbrev pub with_line_step : Verb → Option Scene → Option Line → Past → Past
 with_line_step verb before None past = past
-with_line_step verb before (Some l) past = with_sharing past l (sharing_after verb before (sharing_of past l))
+with_line_step verb before (Some l) past = record past { lines = slice_set past.lines l.0 (sharing_after verb before (sharing_of past l)) }
 
 -- after a step; a refused one leaves all as it was
 abbrev pub past_by : Option Refusal → Sizes → Past → Named → Option Scene → Reply → Past

@@ -1,6 +1,6 @@
 -- What stands of one agent and one line (docs/PROTOCOL.md, "One line").
-use Rattle.std.specs.Prelude.{ℕ, ◌==◌, nat_lt, List, Bool, ◌&&◌, ◌||◌, not, Option, Some, None, if◌then◌else◌}
-use Rattle.std.specs.List.{slice_index_or}
+use Rattle.std.specs.Prelude.{◌==◌, nat_lt, List, Bool, false, Option, Some, None, slice_set, if◌then◌else◌}
+use Rattle.std.specs.List.{list_any, slice_index_or}
 use Rattle.chi_flit.specs.declared.numbers.Agent.{Agent}
 use Rattle.chi_slice.specs.Words.{is_in, no_flits, LineView}
 use Rattle.chi_slice.specs.Verdict.{no_copy}
@@ -13,15 +13,9 @@ abbrev pub owner_seen : Option Agent → Agent → OwnerSeen
 owner_seen None agent = Nobody
 owner_seen (Some owner) agent = if owner.0 == agent.0 then Itself else Another
 
--- the agent of this number has a mark, and is another one
-abbrev pub is_other : List Bool → Agent → ℕ → Bool
-is_other marks agent n = is_in marks n && not (agent.0 == n)
-
--- one of them has
+-- an agent other than this one has a mark
 abbrev pub any_other : List Bool → Agent → Bool
-any_other marks agent =
-    is_other marks agent 0 || (is_other marks agent 1 || (is_other marks agent 2 || (is_other marks agent 3
-    || (is_other marks agent 4 || (is_other marks agent 5 || (is_other marks agent 6 || is_other marks agent 7))))))
+any_other marks agent = list_any (λ marked. marked) (slice_set marks agent.0 false)
 
 abbrev pub scene_of : LineView → Agent → Scene
 scene_of view agent = record {

@@ -40,9 +40,9 @@ stage_of phase scene = stage_by phase scene.flits.req scene.flits.rsp_down
 
 abbrev pub snoop_by : Option Snoop → Option Pending → Scene → List (Option Cell)
 snoop_by None pending scene = no_cells
-snoop_by (Some snoop) None scene = one_cell (Some (cells.Snooped scene.state snoop))
+snoop_by (Some snoop) None scene = one_cell (Some (cells.Snooped snoop scene.state))
 snoop_by (Some snoop) (Some pending) scene =
-    Some (cells.Snooped scene.state snoop) ∷ Some (cells.Crossed snoop pending.kind scene.state) ∷ Some (cells.CrossedAt pending.kind (stage_of pending.phase scene)) ∷ []
+    Some (cells.Snooped snoop scene.state) ∷ Some (cells.Crossed snoop pending.kind scene.state) ∷ Some (cells.CrossedAt pending.kind (stage_of pending.phase scene)) ∷ []
 
 abbrev pub snoop_cells : Scene → List (Option Cell)
 snoop_cells scene = snoop_by scene.flits.snp scene.pending scene
@@ -68,7 +68,7 @@ is_itself other = false
 
 abbrev pub answer_if : Option Form → Serving → Scene → Option LineView → List (Option Cell)
 answer_if (Some form) (servings.Snooping agent kind slot) scene after =
-    Some (cells.Answer form kind (not scene.awaits_others)) ∷ Some (cells.AnswerOf form (is_itself scene.owner)) ∷ completion_cell kind (scene_at after agent) true ∷ []
+    Some (cells.Answer kind form (not scene.awaits_others)) ∷ Some (cells.AnswerOf form (is_itself scene.owner)) ∷ completion_cell kind (scene_at after agent) true ∷ []
 answer_if form serving scene after = no_cells
 
 abbrev pub answer_cells : Scene → Option LineView → List (Option Cell)

@@ -9,8 +9,8 @@ use Rattle.chi_slice.specs.Words.{LineView, Sizes}
 use Rattle.chi_replay.specs.declared.replies.Reply.{Reply}
 use Rattle.chi_replay.specs.Replies.{refusal_in}
 use Rattle.chi_coverage.specs.declared.cells.Cell.{Cell}
-use Rattle.chi_coverage.specs.declared.cells.Verb.{Verb}
-use Rattle.chi_coverage.specs.declared.cells.Verb.TheVariants as verbs
+use Rattle.chi_script.specs.declared.verbs.Verb.{Verb}
+use Rattle.chi_script.specs.declared.verbs.Verb.TheVariants as verbs
 use Rattle.chi_coverage.specs.declared.scenes.Scene.{Scene}
 use Rattle.chi_coverage.specs.declared.named.Named.{Named}
 use Rattle.chi_coverage.specs.declared.past.Past.{Past}

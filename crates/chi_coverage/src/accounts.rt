@@ -1,16 +1,16 @@
 //! What the answers so far show of an agent's account, and the cells that it shows.
 
 ghost use Rattle.std.specs.Prelude.{◌≡◌, ◌<◌, ◌≤◌, IfOk};
-ghost use Rattle.chi_coverage.specs.Accounts.{told_account_after, account_cell, after_arrival, after_cancel, after_resend, after_return, after_see, after_spend, credits_in, found_in, has_cancelled, has_unused_credit, has_two, count_at_type, one_less, one_credit_more, resend_cell, retry_cell, return_cell, some_place, types_seen};
+ghost use Rattle.chi_coverage.specs.Accounts.{told_account_after, account_cell, after_arrival, after_cancel, after_resend, after_return, after_see, after_spend, credits_in, found_in, has_cancelled, has_unused_credit, has_two, count_at_type, one_less, one_credit_more, resend_cell, retry_cell, return_cell, types_seen};
 ghost use Rattle.chi_replay.specs.Replies.{refusal_in};
 
-use crate::cells::{Cell, Verb};
+use crate::cells::Cell;
 use crate::named::Named;
-use crate::places::{bool_place, credit_place};
 use crate::requester_cells::{CreditsFound, RequesterCell};
 use crate::scenes::Scene;
 use chi_flit::{CreditType, NoMemory, Profile, Refusal, Request, credit_type};
 use chi_replay::Reply;
+use chi_script::Verb;
 use chi_slice::Pending;
 
 /// What the answers so far show of an agent's account, by credit type.
@@ -35,14 +35,14 @@ pub(crate) const NO_ACCOUNT: AccountView = AccountView {
 fn count_at_type(numbers: &[u32; 4], credit: CreditType) -> u32
     ensures { result ≡ count_at_type numbers.now credit }
 {
-    numbers[credit_place(credit)]
+    numbers[usize::from(credit.number())]
 }
 
 /// One more of the type. Refused where the number is too large, as only endless memory could have it.
 fn one_credit_more(numbers: &[u32; 4], credit: CreditType) -> Result<[u32; 4], NoMemory>
     ensures { IfOk result (λ more. more ≡ one_credit_more numbers.now credit) }
 {
-    let place = credit_place(credit);
+    let place = usize::from(credit.number());
     let mut more = *numbers;
     more[place] = more[place].checked_add(1).ok_or(NoMemory)?;
     Ok(more)
@@ -52,7 +52,7 @@ fn one_credit_more(numbers: &[u32; 4], credit: CreditType) -> Result<[u32; 4], N
 fn one_less(numbers: &[u32; 4], credit: CreditType) -> [u32; 4]
     ensures { result ≡ one_less numbers.now credit }
 {
-    let place = credit_place(credit);
+    let place = usize::from(credit.number());
     let mut less = *numbers;
     less[place] = less[place].saturating_sub(1);
     less
@@ -89,8 +89,7 @@ impl AccountView {
     {
         AccountView {
             seen: credits_in(reply),
-            riding: self.riding,
-            cancelled: self.cancelled,
+            ..*self
         }
     }
 
@@ -104,9 +103,8 @@ impl AccountView {
     {
         match pending {
             Some(pending) => Ok(AccountView {
-                seen: self.seen,
                 riding: one_credit_more(&self.riding, credit_type(profile, pending.kind))?,
-                cancelled: self.cancelled,
+                ..*self
             }),
             None => Ok(*self),
         }
@@ -122,9 +120,8 @@ impl AccountView {
     {
         match pending {
             Some(pending) => Ok(AccountView {
-                seen: self.seen,
-                riding: self.riding,
                 cancelled: one_credit_more(&self.cancelled, credit_type(profile, pending.kind))?,
+                ..*self
             }),
             None => Ok(*self),
         }
@@ -137,7 +134,7 @@ impl AccountView {
         AccountView {
             seen: one_less(&self.seen, credit),
             riding: one_less(&self.riding, credit),
-            cancelled: self.cancelled,
+            ..*self
         }
     }
 
@@ -164,8 +161,8 @@ impl AccountView {
         match credit {
             Some(credit) => AccountView {
                 seen: one_less(&self.seen, credit),
-                riding: self.riding,
                 cancelled: one_less(&self.cancelled, credit),
+                ..*self
             },
             None => *self,
         }
@@ -194,30 +191,24 @@ impl AccountView {
     }
 }
 
-/// One where there is a credit of the type.
-fn some_place(numbers: &[u32; 4], ty: usize) -> usize
-    requires { ty < 4 }
-    ensures is { result ≡ some_place numbers.now ty }
-    ensures low { result ≤ 1 }
+/// Whether there are two credits of a type.
+fn has_two(numbers: &[u32; 4]) -> bool
+    ensures { result ≡ has_two numbers.now }
 {
-    bool_place(numbers[ty] > 0)
+    numbers.iter().any(|number| *number > 1)
 }
 
 /// Of how many types there are credits.
 fn types_seen(numbers: &[u32; 4]) -> usize
     ensures { result ≡ types_seen numbers.now }
 {
-    some_place(numbers, 0)
-        + some_place(numbers, 1)
-        + some_place(numbers, 2)
-        + some_place(numbers, 3)
-}
-
-/// Whether there are two credits of a type.
-fn has_two(numbers: &[u32; 4]) -> bool
-    ensures { result ≡ has_two numbers.now }
-{
-    numbers[0] > 1 || numbers[1] > 1 || numbers[2] > 1 || numbers[3] > 1
+    let mut types = 0;
+    for number in numbers {
+        if *number > 0 {
+            types += 1;
+        }
+    }
+    types
 }
 
 /// What a `see` finds.

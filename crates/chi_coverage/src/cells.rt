@@ -1,41 +1,13 @@
 //! The cells of the protocol's tables.
 
 ghost use Rattle.std.specs.Prelude.{◌≡◌, Some};
-ghost use Rattle.chi_coverage.specs.Cells.{cell_if, cell_text, form_text, is_crossing_unreachable, is_unreachable, is_write_unreachable, reason_text, section_text, shown_name, stage_text, verb_text};
+ghost use Rattle.chi_coverage.specs.Cells.{cell_if, cell_text, form_text, is_crossing_unreachable, is_unreachable, is_write_unreachable, reason_text, section_text, shown_name, stage_text};
 
 use crate::requester_cells::RequesterCell;
 use crate::situations::Situation;
 use chi_flit::{CreditType, Kind, Profile, Snoop, State};
+use chi_script::Verb;
 use std::fmt;
-
-/// The word that a command begins with.
-/// Source: `docs/FORMATS.md`, "Replay files".
-#[derive(Clone, Copy, PartialEq, Eq)]
-pub(crate) enum Verb {
-    Load,
-    Store,
-    Drop,
-    Issue,
-    Arrive,
-    Start,
-    Snp,
-    SnpResp,
-    RetryAck,
-    Data,
-    Comp,
-    Dbid,
-    Ack,
-    WrData,
-    Resend,
-    Cancel,
-    See,
-    GiveBack,
-    Tend,
-    Flits,
-    Show,
-    Totals,
-    Audit,
-}
 
 /// What a command is refused for.
 /// Source: `docs/PROTOCOL.md`, "The actions".
@@ -152,14 +124,14 @@ pub(crate) enum Cell {
     Issue(Kind, State),
     /// A request of the kind is started, and the filter shows this.
     Start(Kind, Shown),
-    /// An answer of the form is taken for a request of the kind, as the last one or not.
-    Answer(Form, Kind, bool),
+    /// An answer to a request of the kind is taken, in the form, as the last one or not.
+    Answer(Kind, Form, bool),
     /// An answer of the form is taken, of the owner or not.
     AnswerOf(Form, bool),
     /// A request of the kind is completed in the form, behind answers or at its start.
     Completion(Kind, Form, bool),
-    /// A copy in the state is snooped.
-    Snooped(State, Snoop),
+    /// A snoop finds a copy in the state.
+    Snooped(Snoop, State),
     /// A snoop crosses a request of the kind, with the copy in the state.
     Crossed(Snoop, Kind, State),
     /// A snoop crosses a request of the kind, which has come so far.
@@ -190,46 +162,6 @@ pub(crate) fn cell_if(holds: bool, cell: Cell) -> Option<Cell>
     ensures { result ≡ cell_if holds cell }
 {
     if holds { Some(cell) } else { None }
-}
-
-impl Verb {
-    fn name(self) -> &'static str
-        ensures { result.now ≡ verb_text self }
-    {
-        match self {
-            Verb::Load => "load",
-            Verb::Store => "store",
-            Verb::Drop => "drop",
-            Verb::Issue => "issue",
-            Verb::Arrive => "arrive",
-            Verb::Start => "start",
-            Verb::Snp => "snp",
-            Verb::SnpResp => "snpresp",
-            Verb::RetryAck => "retryack",
-            Verb::Data => "data",
-            Verb::Comp => "comp",
-            Verb::Dbid => "dbid",
-            Verb::Ack => "ack",
-            Verb::WrData => "wrdata",
-            Verb::Resend => "resend",
-            Verb::Cancel => "cancel",
-            Verb::See => "see",
-            Verb::GiveBack => "giveback",
-            Verb::Tend => "tend",
-            Verb::Flits => "flits",
-            Verb::Show => "show",
-            Verb::Totals => "totals",
-            Verb::Audit => "audit",
-        }
-    }
-}
-
-impl fmt::Display for Verb {
-    ghost output = { λ verb. Some (verb_text verb) };
-
-    fn fmt<W: fmt::Write>(&self, f: &mut fmt::Formatter<W>) -> fmt::Result {
-        f.write_str(self.name())
-    }
 }
 
 impl fmt::Display for Reason {
@@ -282,14 +214,6 @@ impl Shown {
     }
 }
 
-impl fmt::Display for Shown {
-    ghost output = { λ shown. Some (shown_name shown) };
-
-    fn fmt<W: fmt::Write>(&self, f: &mut fmt::Formatter<W>) -> fmt::Result {
-        f.write_str(self.name())
-    }
-}
-
 impl Stage {
     fn name(self) -> &'static str
         ensures { result.now ≡ stage_text self }
@@ -301,14 +225,6 @@ impl Stage {
             Stage::Resent => "its second attempt in flight",
             Stage::Waiting => "waiting",
         }
-    }
-}
-
-impl fmt::Display for Stage {
-    ghost output = { λ stage. Some (stage_text stage) };
-
-    fn fmt<W: fmt::Write>(&self, f: &mut fmt::Formatter<W>) -> fmt::Result {
-        f.write_str(self.name())
     }
 }
 
@@ -375,9 +291,9 @@ impl Cell {
     {
         match self {
             Cell::Start(Kind::Evict | Kind::WriteEvictFull, Shown::Owner) => true,
-            Cell::Answer(_, Kind::ReadNotSharedDirty | Kind::ReadShared, false) => true,
+            Cell::Answer(Kind::ReadNotSharedDirty | Kind::ReadShared, _, false) => true,
             Cell::AnswerOf(Form::SnpRespI | Form::SnpRespSC, true) => true,
-            Cell::Snooped(State::SC, Snoop::SnpNotSharedDirty | Snoop::SnpShared) => true,
+            Cell::Snooped(Snoop::SnpNotSharedDirty | Snoop::SnpShared, State::SC) => true,
             Cell::Crossed(snoop, kind, state) => is_crossing_unreachable(*snoop, *kind, *state),
             Cell::WriteAsked(kind, state) | Cell::WriteTaken(kind, state) => {
                 is_write_unreachable(*kind, *state)
@@ -427,16 +343,18 @@ impl fmt::Display for Cell {
             Cell::DoneIn(verb, state) => write!(f, "{verb}: done in {state}"),
             Cell::CompFinds(state) => write!(f, "comp: Comp_UC finds {state}"),
             Cell::Issue(kind, state) => write!(f, "issue: {kind} in {state}"),
-            Cell::Start(kind, shown) => write!(f, "{kind}: {shown}"),
-            Cell::Answer(form, kind, true) => write!(f, "{form} for {kind}, the last"),
-            Cell::Answer(form, kind, false) => write!(f, "{form} for {kind}, not the last"),
+            Cell::Start(kind, shown) => write!(f, "{kind}: {}", shown.name()),
+            Cell::Answer(kind, form, true) => write!(f, "{form} for {kind}, the last"),
+            Cell::Answer(kind, form, false) => write!(f, "{form} for {kind}, not the last"),
             Cell::AnswerOf(form, true) => write!(f, "{form} of the owner"),
             Cell::AnswerOf(form, false) => write!(f, "{form} of no owner"),
             Cell::Completion(kind, form, true) => write!(f, "{kind}: {form} behind answers"),
             Cell::Completion(kind, form, false) => write!(f, "{kind}: {form} at its start"),
-            Cell::Snooped(state, snoop) => write!(f, "{state} at {snoop}"),
+            Cell::Snooped(snoop, state) => write!(f, "{state} at {snoop}"),
             Cell::Crossed(snoop, kind, state) => write!(f, "{snoop} crosses {kind} in {state}"),
-            Cell::CrossedAt(kind, stage) => write!(f, "a snoop crosses {kind}, {stage}"),
+            Cell::CrossedAt(kind, stage) => {
+                write!(f, "a snoop crosses {kind}, {}", stage.name())
+            }
             Cell::WriteAsked(kind, state) => write!(f, "dbid: {kind} in {state}"),
             Cell::WriteTaken(kind, state) => {
                 let form = Form::CopyBackWrData(*state);
@@ -449,7 +367,7 @@ impl fmt::Display for Cell {
             Cell::Released(verb, true) => write!(f, "{verb}: granted"),
             Cell::Released(verb, false) => write!(f, "{verb}: freed"),
             Cell::Requester(cell) => write!(f, "{cell}"),
-            Cell::Situation(situation) => write!(f, "{situation}"),
+            Cell::Situation(situation) => f.write_str(situation.name()),
         }
     }
 }

@@ -3,10 +3,11 @@
 ghost use Rattle.std.specs.Prelude.{◌≡◌};
 ghost use Rattle.chi_coverage.specs.Completions.{comp_cells, completion_cell, completion_in, is_evict, overtaken_cell, overtaking, write_cells};
 
-use crate::cells::{Cell, Form, NO_CELLS, Verb, cell_if};
+use crate::cells::{Cell, Form, NO_CELLS, cell_if};
 use crate::scenes::{OwnerSeen, Scene};
 use crate::situations::Situation;
 use chi_flit::{DatUp, Kind, RspDown, State};
+use chi_script::Verb;
 use chi_slice::{Pending, Serving};
 
 /// The completion of a request of the kind, where one was sent to its agent.

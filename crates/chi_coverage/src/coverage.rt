@@ -2,9 +2,9 @@
 
 ghost use Rattle.std.specs.Prelude.{◌≡◌, ◌≢◌, ◌++◌, [], IfOk, OnOk, None, Some, length, map, replicate, string_bytes};
 ghost use Rattle.std.specs.List.{filter};
-ghost use Rattle.chi_replay.specs.Suites.{fault_words, faulty_line, first_of, given, given_of};
+ghost use Rattle.chi_replay.specs.Suites.{faulty_line, first_of, given, given_of};
 ghost use Rattle.chi_coverage.specs.Coverage.{IsCoverReport, cover_text, is_reached, reached_of};
-ghost use Rattle.chi_coverage.specs.Counts.{CoverGoesOn, count_at};
+ghost use Rattle.chi_coverage.specs.Counts.{CoverGoesOn, count_at, cover_state};
 ghost use Rattle.chi_coverage.specs.Places.{place_count};
 
 use crate::forms::{CoverShape, reached_in, text_of};
@@ -12,10 +12,9 @@ use crate::lists::all_cells;
 use crate::places::PLACES;
 use crate::runs::count_file;
 use chi_flit::NoMemory;
-use chi_replay::SuiteFile;
+use chi_replay::{FaultWords, SuiteFile};
 use chi_script::{Fault, hint_at};
 use std::alloc::Allocator;
-use std::fmt;
 use std::io::Write;
 
 /// What came of the coverage of files.
@@ -81,16 +80,8 @@ impl<A: Allocator + Copy> CoverRun<A> {
     fn add(&mut self, alloc: A, file: &SuiteFile) -> Result<(), NoMemory>
         requires { length self.old.counts.items ≡ place_count }
         ensures { OnOk result (CoverGoesOn (given_of file.now)
-            (record {
-              counts = self.old.counts.items;
-              faults = string_bytes self.old.faults;
-              fault = self.old.fault;
-            })
-            (record {
-              counts = self.new.counts.items;
-              faults = string_bytes self.new.faults;
-              fault = self.new.fault;
-            })) }
+            (cover_state self.old.counts.items (string_bytes self.old.faults) self.old.fault)
+            (cover_state self.new.counts.items (string_bytes self.new.faults) self.new.fault)) }
     {
         match file.bytes {
             Some(bytes) => self.add_bytes(alloc, file.name, bytes),
@@ -102,16 +93,8 @@ impl<A: Allocator + Copy> CoverRun<A> {
     fn add_bytes(&mut self, alloc: A, name: &str, bytes: &[u8]) -> Result<(), NoMemory>
         requires { length self.old.counts.items ≡ place_count }
         ensures { OnOk result (CoverGoesOn (given name.now (Some bytes.now))
-            (record {
-              counts = self.old.counts.items;
-              faults = string_bytes self.old.faults;
-              fault = self.old.fault;
-            })
-            (record {
-              counts = self.new.counts.items;
-              faults = string_bytes self.new.faults;
-              fault = self.new.fault;
-            })) }
+            (cover_state self.old.counts.items (string_bytes self.old.faults) self.old.fault)
+            (cover_state self.new.counts.items (string_bytes self.new.faults) self.new.fault)) }
     {
         match count_file(alloc, bytes, self.counts.as_mut_slice()) {
             Ok(()) => Ok(()),
@@ -159,25 +142,5 @@ impl<A: Allocator + Copy> CoverRun<A> {
             fault,
             reached,
         })
-    }
-}
-
-/// What is wrong with a file, without the program's name.
-#[derive(Clone, Copy)]
-struct FaultWords(Fault);
-
-impl fmt::Display for FaultWords {
-    ghost output = { λ words. Some (fault_words words.0) };
-
-    fn fmt<W: fmt::Write>(&self, f: &mut fmt::Formatter<W>) -> fmt::Result {
-        match self.0 {
-            Fault::NoMemory => write!(f, "out of memory"),
-            Fault::BadHeader(line) => write!(f, "line {line}: bad header"),
-            Fault::BadCommand(line) => write!(f, "line {line}: bad command"),
-            Fault::MissingNewline(line) => write!(f, "line {line}: missing newline"),
-            Fault::TooLarge => write!(f, "file too large"),
-            Fault::Read => write!(f, "cannot read"),
-            Fault::Write => write!(f, "cannot write"),
-        }
     }
 }

@@ -1,9 +1,9 @@
 //! How the counts of cells are written.
 
-ghost use Rattle.std.specs.Prelude.{◌≡◌, ◌+◌, ◌++◌, IfOk, OnOk, codes, drop, length};
+ghost use Rattle.std.specs.Prelude.{◌≡◌, ◌+◌, ◌++◌, IfOk, OnOk, drop, length};
 ghost use Rattle.std.specs.Fmt.{decimal};
 ghost use Rattle.std.specs.List.{filter};
-ghost use Rattle.chi_coverage.specs.Coverage.{cell_line, cover_lines, framed, is_reachable, is_reached, line_of_cell, summary, unreachable_text};
+ghost use Rattle.chi_coverage.specs.Coverage.{cell_line, cover_lines, framed, is_reachable, is_reached, line_of_cell, unreachable_text};
 ghost use Rattle.chi_coverage.specs.Counts.{count_at};
 ghost use Rattle.chi_coverage.specs.Places.{place_count};
 
@@ -65,23 +65,19 @@ fn frame<A: Allocator>(
     ensures { IfOk result (λ text. text.items ≡ framed form lines.items reached reachable) }
 {
     match form {
-        CoverForm::Lines => summed_up(lines, reached, reachable),
+        CoverForm::Lines => {
+            let mut text = lines;
+            writeln!(text, "covered {reached} of {reachable} cells").map_err(|_| NoMemory)?;
+            Ok(text)
+        }
         CoverForm::Json => json_value(alloc, &lines, reached, reachable),
-        CoverForm::Tsv => tsv_table(alloc, &lines),
+        CoverForm::Tsv => {
+            let mut text = Vec::new(alloc);
+            text.extend_from_slice(b"section\tcell\tcount\n")?;
+            text.extend_from_slice(&lines)?;
+            Ok(text)
+        }
     }
-}
-
-/// The lines, and one on all cells. Refused where memory runs out.
-fn summed_up<A: Allocator>(
-    lines: Vec<u8, A>,
-    reached: usize,
-    reachable: usize,
-) -> Result<Vec<u8, A>, NoMemory>
-    ensures { IfOk result (λ text. text.items ≡ lines.items ++ summary reached reachable) }
-{
-    let mut text = lines;
-    writeln!(text, "covered {reached} of {reachable} cells").map_err(|_| NoMemory)?;
-    Ok(text)
 }
 
 /// The JSON value of the lines, of which each begins with a comma. Refused where memory runs out.
@@ -113,17 +109,6 @@ fn behind_first(bytes: &[u8]) -> &[u8]
         [] => bytes,
         [_, rest @ ..] => rest,
     }
-}
-
-/// The lines behind the names of their values. Refused where memory runs out.
-fn tsv_table<A: Allocator>(alloc: A, lines: &[u8]) -> Result<Vec<u8, A>, NoMemory>
-    ensures { IfOk result
-        (λ text. text.items ≡ codes "section\tcell\tcount\n" ++ lines.now) }
-{
-    let mut text = Vec::new(alloc);
-    text.extend_from_slice(b"section\tcell\tcount\n")?;
-    text.extend_from_slice(lines)?;
-    Ok(text)
 }
 
 /// Puts a line for each of the cells behind the text.

@@ -3,9 +3,10 @@
 ghost use Rattle.std.specs.Prelude.{◌≡◌, ◌+◌, IfOk};
 ghost use Rattle.chi_coverage.specs.Journals.{journal_after, journal_cell};
 
-use crate::cells::{Cell, Verb, cell_if};
+use crate::cells::{Cell, cell_if};
 use crate::situations::Situation;
 use chi_flit::{NoMemory, Refusal};
+use chi_script::Verb;
 
 /// What the answers so far show of a slice's journal.
 /// Source: `docs/PROTOCOL.md`, "The journal and last values".

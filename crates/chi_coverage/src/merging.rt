@@ -7,7 +7,7 @@ ghost use Rattle.chi_coverage.specs.Coverage.{cover_text, reached_of};
 ghost use Rattle.chi_coverage.specs.Counts.{count_at};
 ghost use Rattle.chi_coverage.specs.Cells.{is_unreachable};
 ghost use Rattle.chi_coverage.specs.Lists.{all_cells};
-ghost use Rattle.chi_coverage.specs.Merging.{IsMergeReport, IsNoReport, IsReport, MergeGoesOn, fault_line, report_text, sums};
+ghost use Rattle.chi_coverage.specs.Merging.{IsMergeReport, IsNoReport, IsReport, MergeGoesOn, fault_line, merge_state, report_text, sums};
 ghost use Rattle.chi_coverage.specs.Places.{cell_place, place_count};
 ghost use Rattle.chi_coverage.specs.Reading.{IsNoReportIn, behind_digits, counts_with_line, digits_in, line_len, lines_in, number_in, read_from, rest_behind};
 
@@ -82,16 +82,8 @@ impl<A: Allocator + Copy> MergeRun<A> {
     fn add(&mut self, alloc: A, file: &SuiteFile) -> Result<(), NoMemory>
         requires { length self.old.counts.items ≡ place_count }
         ensures { OnOk result (MergeGoesOn (given_of file.now)
-            (record {
-              counts = self.old.counts.items;
-              faults = string_bytes self.old.faults;
-              faulty = self.old.faulty;
-            })
-            (record {
-              counts = self.new.counts.items;
-              faults = string_bytes self.new.faults;
-              faulty = self.new.faulty;
-            })) }
+            (merge_state self.old.counts.items (string_bytes self.old.faults) self.old.faulty)
+            (merge_state self.new.counts.items (string_bytes self.new.faults) self.new.faulty)) }
     {
         match file.bytes {
             Some(bytes) => self.add_bytes(alloc, file.name, bytes),
@@ -103,16 +95,8 @@ impl<A: Allocator + Copy> MergeRun<A> {
     fn add_bytes(&mut self, alloc: A, name: &str, bytes: &[u8]) -> Result<(), NoMemory>
         requires { length self.old.counts.items ≡ place_count }
         ensures { OnOk result (MergeGoesOn (given name.now (Some bytes.now))
-            (record {
-              counts = self.old.counts.items;
-              faults = string_bytes self.old.faults;
-              faulty = self.old.faulty;
-            })
-            (record {
-              counts = self.new.counts.items;
-              faults = string_bytes self.new.faults;
-              faulty = self.new.faulty;
-            })) }
+            (merge_state self.old.counts.items (string_bytes self.old.faults) self.old.faulty)
+            (merge_state self.new.counts.items (string_bytes self.new.faults) self.new.faulty)) }
     {
         match counts_of(alloc, bytes)? {
             Some(counts) => self.add_counts(alloc, &counts),

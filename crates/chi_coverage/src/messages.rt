@@ -1,14 +1,15 @@
 //! The cells of the messages that are shown in flight.
 
 ghost use Rattle.std.specs.Prelude.{◌≡◌};
-ghost use Rattle.chi_coverage.specs.Messages.{flight_cells, is_flight_empty, message_cell, message_cells, message_form};
+ghost use Rattle.chi_coverage.specs.Messages.{flight_cells, message_cell, message_cells, message_form};
 
-use crate::cells::{Cell, Form, Verb, cell_if};
+use crate::cells::{Cell, Form, cell_if};
 use crate::named::Named;
 use crate::scenes::Scene;
 use crate::situations::Situation;
 use chi_flit::{Channel, DatUp, Msg, RspDown, RspUp};
-use chi_replay::Reply;
+use chi_replay::{InFlight, Reply};
+use chi_script::Verb;
 use chi_slice::Cells;
 
 /// The form of a message.
@@ -40,23 +41,11 @@ fn message_cell(cells: &Cells, channel: Channel) -> Option<Cell>
     Some(Cell::Message(message_form(cells.get(channel)?)))
 }
 
-/// Whether no message is in flight.
-fn is_flight_empty(cells: &Cells) -> bool
-    ensures { result ≡ is_flight_empty cells.now }
-{
-    cells.req.is_none()
-        && cells.snp.is_none()
-        && cells.rsp_down.is_none()
-        && cells.dat_down.is_none()
-        && cells.rsp_up.is_none()
-        && cells.dat_up.is_none()
-}
-
 /// The cells of what is shown in flight.
 fn flight_cells(cells: &Cells) -> [Option<Cell>; 7]
     ensures { result ≡ flight_cells cells.now }
 {
-    let none = is_flight_empty(cells);
+    let none = InFlight(cells).is_empty();
     [
         message_cell(cells, Channel::Req),
         message_cell(cells, Channel::Snp),

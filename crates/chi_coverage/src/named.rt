@@ -1,11 +1,10 @@
 //! What a command names.
 
 ghost use Rattle.std.specs.Prelude.{◌≡◌};
-ghost use Rattle.chi_coverage.specs.Named.{named_by, named_of, named_typed, step_verb};
+ghost use Rattle.chi_coverage.specs.Named.{kind_named, named_by, named_of, named_typed, verb_of};
 
-use crate::cells::Verb;
 use chi_flit::{Agent, CreditType, Kind, Line, Step};
-use chi_script::Command;
+use chi_script::{Command, Verb};
 
 /// What a command names.
 /// Source: `docs/FORMATS.md`, "Replay files".
@@ -46,53 +45,46 @@ fn named_typed(verb: Verb, agent: Agent, credit: Option<CreditType>) -> Named
     }
 }
 
+/// The verb of a command.
+fn verb_of(command: &Command) -> Verb
+    ensures { result ≡ verb_of command.now }
+{
+    (*command).verb()
+}
+
+/// The kind that a step names.
+fn kind_named(step: Step) -> Option<Kind>
+    ensures { result ≡ kind_named step }
+{
+    match step {
+        Step::Issue(kind, _) => Some(kind),
+        _ => None,
+    }
+}
+
 /// What a command names.
 pub(crate) fn named_of(command: Command) -> Named
     ensures { result ≡ named_of command }
 {
+    let verb = verb_of(&command);
     match command {
-        Command::Totals => named_by(Verb::Totals, None, None),
-        Command::Audit => named_by(Verb::Audit, None, None),
-        Command::Show { line } => named_by(Verb::Show, None, Some(line)),
-        Command::See { agent } => named_by(Verb::See, Some(agent), None),
-        Command::GiveBack { agent, credit } => named_typed(Verb::GiveBack, agent, credit),
-        Command::Tend { agent, credit } => named_typed(Verb::Tend, agent, credit),
-        Command::Flits { agent, line } => named_by(Verb::Flits, Some(agent), Some(line)),
-        Command::Arrive { agent, line } => named_by(Verb::Arrive, Some(agent), Some(line)),
+        Command::Totals => named_by(verb, None, None),
+        Command::Audit => named_by(verb, None, None),
+        Command::Show { line } => named_by(verb, None, Some(line)),
+        Command::See { agent } => named_by(verb, Some(agent), None),
+        Command::GiveBack { agent, credit } => named_typed(verb, agent, credit),
+        Command::Tend { agent, credit } => named_typed(verb, agent, credit),
+        Command::Flits { agent, line } => named_by(verb, Some(agent), Some(line)),
+        Command::Arrive { agent, line } => named_by(verb, Some(agent), Some(line)),
         Command::Act(action) => {
             let action = action.action();
-            let (verb, kind) = step_verb(action.step);
             Named {
                 verb,
                 agent: Some(action.agent),
                 line: Some(action.line),
-                kind,
+                kind: kind_named(action.step),
                 credit: None,
             }
         }
-    }
-}
-
-/// The word of a step, and the kind that it names; an Admit and a Retry are an arrival's.
-fn step_verb(step: Step) -> (Verb, Option<Kind>)
-    ensures { result ≡ step_verb step }
-{
-    match step {
-        Step::Load(_) => (Verb::Load, None),
-        Step::Store(..) => (Verb::Store, None),
-        Step::Drop => (Verb::Drop, None),
-        Step::Issue(kind, _) => (Verb::Issue, Some(kind)),
-        Step::Admit | Step::Retry => (Verb::Arrive, None),
-        Step::RecvRetry => (Verb::RetryAck, None),
-        Step::Resend => (Verb::Resend, None),
-        Step::Cancel => (Verb::Cancel, None),
-        Step::Start => (Verb::Start, None),
-        Step::RecvSnp => (Verb::Snp, None),
-        Step::RecvSnpResp => (Verb::SnpResp, None),
-        Step::RecvData => (Verb::Data, None),
-        Step::RecvComp => (Verb::Comp, None),
-        Step::RecvAck => (Verb::Ack, None),
-        Step::RecvDbid => (Verb::Dbid, None),
-        Step::RecvWrData => (Verb::WrData, None),
     }
 }

@@ -3,7 +3,7 @@
 ghost use Rattle.std.specs.Prelude.{◌≡◌};
 ghost use Rattle.chi_coverage.specs.Outcomes.{limit_cells, outcome_cells, own_cell, own_grant, released_cell, released_in, slice_cell};
 
-use crate::cells::{Cell, NO_CELLS, Verb, cell_if};
+use crate::cells::{Cell, NO_CELLS, cell_if};
 use crate::named::Named;
 use crate::refused::refused_cells;
 use crate::scenes::Scene;
@@ -11,6 +11,7 @@ use crate::situations::Situation;
 use chi_flit::{Agent, Line};
 use chi_node::Released;
 use chi_replay::Reply;
+use chi_script::Verb;
 use chi_slice::Config;
 
 /// Where an entry went, if one was released.

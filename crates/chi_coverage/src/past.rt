@@ -1,8 +1,9 @@
 //! What the steps before have left, and the cells that it shows.
 
-ghost use Rattle.std.specs.Prelude.{◌≡◌, OnOk};
+ghost use Rattle.std.specs.Prelude.{◌≡◌, OnOk, slice_set};
+ghost use Rattle.std.specs.List.{slice_index_or};
 ghost use Rattle.chi_coverage.specs.Coverage.{past_shown};
-ghost use Rattle.chi_coverage.specs.Past.{account_of, account_shown, any_room, data_shown, has_room, journal_at, journal_number, journal_shown, no_past, past_after, past_cells, passed_shown, sharing_of, with_told_account, with_agent_step, with_journal, with_journal_step, with_line_step, with_sharing};
+ghost use Rattle.chi_coverage.specs.Past.{account_shown, any_room, data_shown, has_room, journal_number, journal_shown, no_past, past_after, past_cells, passed_shown, with_agent_step, with_journal_step, with_line_step};
 
 use crate::accounts::{AccountView, NO_ACCOUNT, account_cell};
 use crate::cells::Cell;
@@ -26,6 +27,28 @@ pub(crate) struct Past {
     pub(crate) lines: [Sharing; 64],
 }
 
+/// What is at a place; another where nothing is.
+#[tactic(auto, using(std::proofs::lemmas::List::get_or_past, std::proofs::lemmas::List::get_or_default))]
+fn at<T: Copy>(list: &[T], place: usize, other: T) -> T
+    ensures { result ≡ slice_index_or list.now place other }
+{
+    if place < list.len() {
+        list[place]
+    } else {
+        other
+    }
+}
+
+/// What is at a place becomes this, where something is.
+#[tactic(auto, using(std::proofs::lemmas::List::set_past))]
+fn put<T: Copy>(list: &mut [T], place: usize, item: T)
+    ensures { list.new ≡ slice_set list.old place item }
+{
+    if place < list.len() {
+        list[place] = item;
+    }
+}
+
 /// The place of the journal of a line's slice.
 fn journal_number(config: &Config, line: Line) -> usize
     ensures { result ≡ journal_number config.now line }
@@ -45,66 +68,6 @@ impl Past {
         }
     }
 
-    /// An agent's account.
-    fn account_of(&self, agent: Agent) -> AccountView
-        ensures { result ≡ account_of self.now agent }
-    {
-        if agent.0 < 8 {
-            self.accounts[usize::from(agent.0)]
-        } else {
-            NO_ACCOUNT
-        }
-    }
-
-    /// The journal at a place.
-    fn journal_at(&self, place: usize) -> JournalView
-        ensures { result ≡ journal_at self.now place }
-    {
-        if place < 8 {
-            self.journals[place]
-        } else {
-            NO_JOURNAL
-        }
-    }
-
-    /// What dirty data has done at a line.
-    fn sharing_of(&self, line: Line) -> Sharing
-        ensures { result ≡ sharing_of self.now line }
-    {
-        if line.0 < 64 {
-            self.lines[usize::from(line.0)]
-        } else {
-            NO_SHARING
-        }
-    }
-
-    /// An agent's account becomes another one.
-    fn set_account(&mut self, agent: Agent, account: AccountView)
-        ensures { self.new ≡ with_told_account self.old agent account }
-    {
-        if agent.0 < 8 {
-            self.accounts[usize::from(agent.0)] = account;
-        }
-    }
-
-    /// The journal at a place becomes another one.
-    fn set_journal(&mut self, place: usize, journal: JournalView)
-        ensures { self.new ≡ with_journal self.old place journal }
-    {
-        if place < 8 {
-            self.journals[place] = journal;
-        }
-    }
-
-    /// A line becomes another one.
-    fn set_sharing(&mut self, line: Line, sharing: Sharing)
-        ensures { self.new ≡ with_sharing self.old line sharing }
-    {
-        if line.0 < 64 {
-            self.lines[usize::from(line.0)] = sharing;
-        }
-    }
-
     /// The account of the agent after a step that is done. Refused where a number is too large, as only endless memory
     /// could have it.
     fn follow_agent(
@@ -117,15 +80,14 @@ impl Past {
         ensures { OnOk result (self.new
             ≡ with_agent_step profile named.now before.now reply.now named.now.agent self.old) }
     {
-        match named.agent {
-            Some(agent) => {
-                let old = self.account_of(agent);
-                let account = old.after(profile, named, before, reply)?;
-                self.set_account(agent, account);
-                Ok(())
-            }
-            None => Ok(()),
+        if let Some(agent) = named.agent {
+            let place = usize::from(agent.0);
+            let account = at(&self.accounts, place, NO_ACCOUNT).after(
+                profile, named, before, reply,
+            )?;
+            put(&mut self.accounts, place, account);
         }
+        Ok(())
     }
 
     /// The journal of the line's slice after a step that is done. Refused as `follow_agent` is.
@@ -133,16 +95,12 @@ impl Past {
         ensures { OnOk result (self.new
             ≡ with_journal_step config.now named.now.verb named.now.line self.old) }
     {
-        match named.line {
-            Some(line) => {
-                let place = journal_number(config, line);
-                let old = self.journal_at(place);
-                let journal = old.after(named.verb)?;
-                self.set_journal(place, journal);
-                Ok(())
-            }
-            None => Ok(()),
+        if let Some(line) = named.line {
+            let place = journal_number(config, line);
+            let journal = at(&self.journals, place, NO_JOURNAL).after(named.verb)?;
+            put(&mut self.journals, place, journal);
         }
+        Ok(())
     }
 
     /// The line after a step that is done.
@@ -150,8 +108,9 @@ impl Past {
         ensures { self.new ≡ with_line_step named.now.verb before.now named.now.line self.old }
     {
         if let Some(line) = named.line {
-            let sharing = self.sharing_of(line).after(named.verb, before);
-            self.set_sharing(line, sharing);
+            let place = usize::from(line.0);
+            let sharing = at(&self.lines, place, NO_SHARING).after(named.verb, before);
+            put(&mut self.lines, place, sharing);
         }
     }
 
@@ -207,7 +166,7 @@ fn account_shown(
 {
     match named.agent {
         Some(agent) => {
-            let account = past.account_of(agent);
+            let account = at(&past.accounts, usize::from(agent.0), NO_ACCOUNT);
             account_cell(profile, named, before, reply, &account)
         }
         None => None,
@@ -219,7 +178,7 @@ fn has_room(config: &Config, past: &Past, number: usize) -> bool
     ensures { result ≡ has_room config.now past.now number }
 {
     number < usize::from(config.slices())
-        && past.journal_at(number).records < u64::from(config.journal())
+        && at(&past.journals, number, NO_JOURNAL).records < u64::from(config.journal())
 }
 
 /// Whether the journal of a slice has room.
@@ -247,7 +206,7 @@ fn journal_shown(
 {
     match named.line {
         Some(line) => {
-            let journal = past.journal_at(journal_number(config, line));
+            let journal = at(&past.journals, journal_number(config, line), NO_JOURNAL);
             let full = journal.records == u64::from(config.journal());
             let room = any_room(config, past);
             journal_cell(refusal, named.verb, journal.has_store, full, room)
@@ -269,7 +228,8 @@ fn data_shown(
 {
     match (refusal, named.agent, named.line, before) {
         (None, Some(agent), Some(line), Some(scene)) => {
-            data_cell(named.verb, agent, scene, after, past.sharing_of(line))
+            let sharing = at(&past.lines, usize::from(line.0), NO_SHARING);
+            data_cell(named.verb, agent, scene, after, sharing)
         }
         _ => None,
     }
@@ -287,7 +247,8 @@ fn passed_shown(
 {
     match (refusal, named.agent, named.line) {
         (None, Some(agent), Some(line)) => {
-            passed_cell(named.verb, agent, after, past.sharing_of(line))
+            let sharing = at(&past.lines, usize::from(line.0), NO_SHARING);
+            passed_cell(named.verb, agent, after, sharing)
         }
         _ => None,
     }

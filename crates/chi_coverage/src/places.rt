@@ -1,33 +1,13 @@
 //! The place of each cell in the table of counts.
 
-ghost use Rattle.std.specs.Prelude.{◌≡◌, ◌≤◌, ◌<◌, position};
-ghost use Rattle.chi_coverage.specs.Places.{bool_place, cell_place, credit_place, is_same, place_count};
+ghost use Rattle.std.specs.Prelude.{◌≡◌, ◌<◌, position};
+ghost use Rattle.chi_coverage.specs.Places.{cell_place, is_same, place_count};
 
 use crate::cells::Cell;
 use crate::lists::all_cells;
-use chi_flit::CreditType;
 
 /// How many places there are: one for each of the cells, and the last one for what is none of them.
 pub(crate) const PLACES: usize = 566;
-
-pub(crate) fn bool_place(is: bool) -> usize
-    ensures is { result ≡ bool_place is }
-    ensures low { result ≤ 1 }
-{
-    if is { 1 } else { 0 }
-}
-
-pub(crate) fn credit_place(credit: CreditType) -> usize
-    ensures is { result ≡ credit_place credit }
-    ensures low { result ≤ 3 }
-{
-    match credit {
-        CreditType::T0 => 0,
-        CreditType::T1 => 1,
-        CreditType::T2 => 2,
-        CreditType::T3 => 3,
-    }
-}
 
 fn is_same(one: &Cell, other: &Cell) -> bool
     ensures { result ≡ is_same one.now other.now }

@@ -3,11 +3,12 @@
 ghost use Rattle.std.specs.Prelude.{◌≡◌};
 ghost use Rattle.chi_coverage.specs.Refused.{both_cell, both_fit, busy_reason, cancel_reason, is_no_agent, is_no_line, is_second, kind_cell, operand_reason, outside_reason, pending_reason, reason_of, refused_cell, refused_cells, retry_reason, state_reason};
 
-use crate::cells::{Cell, Reason, Verb};
+use crate::cells::{Cell, Reason};
 use crate::named::Named;
 use crate::requester_cells::RequesterCell;
 use crate::scenes::Scene;
 use chi_flit::{Agent, Line, Refusal, State};
+use chi_script::Verb;
 use chi_slice::{Pending, Serving};
 
 /// The operand, behind the agent and the line, that may be outside its range.

@@ -63,14 +63,6 @@ impl CreditsFound {
     }
 }
 
-impl fmt::Display for CreditsFound {
-    ghost output = { λ found. Some (credits_found_text found) };
-
-    fn fmt<W: fmt::Write>(&self, f: &mut fmt::Formatter<W>) -> fmt::Result {
-        f.write_str(self.name())
-    }
-}
-
 impl RequesterCell {
     /// The section of `docs/PROTOCOL.md` whose table has the cell.
     pub(crate) fn section(self) -> &'static str
@@ -113,7 +105,7 @@ impl fmt::Display for RequesterCell {
             RequesterCell::RetryTaken(kind, false) => {
                 write!(f, "retryack: {kind}, RetryAck first")
             }
-            RequesterCell::Seen(found) => write!(f, "see: {found}"),
+            RequesterCell::Seen(found) => write!(f, "see: {}", found.name()),
             RequesterCell::NotReturned(true, _) => {
                 f.write_str("giveback: refused 12 no credit is seen")
             }

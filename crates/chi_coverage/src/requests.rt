@@ -1,29 +1,16 @@
 //! The cells of loads, stores, drops and requests.
 
 ghost use Rattle.std.specs.Prelude.{◌≡◌};
-ghost use Rattle.chi_coverage.specs.Requests.{arrival_of, arrive_cells, copy_cells, has_ack, has_write, is_retry, issue_cells, pending_cells, shown_asking, shown_in, shown_leaving, start_cells};
+ghost use Rattle.chi_coverage.specs.Requests.{arrival_of, arrive_cells, copy_cells, is_retry, issue_cells, pending_cells, shown_asking, shown_in, shown_leaving, start_cells};
 
-use crate::cells::{Cell, NO_CELLS, Shown, Verb, cell_if};
+use crate::cells::{Cell, NO_CELLS, Shown, cell_if};
 use crate::completions::completion_cell;
 use crate::requester_cells::{Arrival, RequesterCell};
 use crate::scenes::{OwnerSeen, Scene};
 use crate::situations::Situation;
 use chi_flit::{DatUp, Kind, Profile, RspUp};
 use chi_replay::Reply;
-
-/// Whether write data of the agent is in flight.
-fn has_write(scene: &Scene) -> bool
-    ensures { result ≡ has_write scene.now }
-{
-    matches!(scene.flits.dat_up, Some(DatUp::CopyBackWrData(..)))
-}
-
-/// Whether a CompAck of the agent is in flight.
-fn has_ack(scene: &Scene) -> bool
-    ensures { result ≡ has_ack scene.now }
-{
-    matches!(scene.flits.rsp_up, Some(RspUp::CompAck))
-}
+use chi_script::Verb;
 
 /// A load, a store or a drop.
 pub(crate) fn copy_cells(verb: Verb, scene: &Scene) -> [Option<Cell>; 3]
@@ -36,14 +23,13 @@ pub(crate) fn copy_cells(verb: Verb, scene: &Scene) -> [Option<Cell>; 3]
 pub(crate) fn issue_cells(kind: Option<Kind>, scene: &Scene) -> [Option<Cell>; 3]
     ensures { result ≡ issue_cells kind scene.now }
 {
+    let acks = matches!(scene.flits.rsp_up, Some(RspUp::CompAck));
+    let writes = matches!(scene.flits.dat_up, Some(DatUp::CopyBackWrData(..)));
     match kind {
         Some(kind) => [
             Some(Cell::Issue(kind, scene.state)),
-            cell_if(has_ack(scene), Cell::Situation(Situation::IssueBehindAck)),
-            cell_if(
-                has_write(scene),
-                Cell::Situation(Situation::IssueBehindWrite),
-            ),
+            cell_if(acks, Cell::Situation(Situation::IssueBehindAck)),
+            cell_if(writes, Cell::Situation(Situation::IssueBehindWrite)),
         ],
         None => NO_CELLS,
     }

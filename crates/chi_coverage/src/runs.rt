@@ -6,7 +6,7 @@ ghost use Rattle.chi_script.specs.CheckFiles.{check_file_of};
 ghost use Rattle.chi_script.specs.Faults.{Fails};
 ghost use Rattle.chi_coverage.specs.Fillers.{is_filler};
 ghost use Rattle.chi_coverage.specs.Coverage.{view_in};
-ghost use Rattle.chi_coverage.specs.Counts.{IsCountedFile, IsCountedRun, IsCountedStep, IsCountedScript};
+ghost use Rattle.chi_coverage.specs.Counts.{IsCountedFile, IsCountedRun, IsCountedStep};
 ghost use Rattle.chi_coverage.specs.Places.{place_count};
 
 use crate::counts::count_step;
@@ -15,7 +15,7 @@ use crate::named::named_of;
 use crate::past::Past;
 use chi_flit::{Line, NoMemory};
 use chi_node::System;
-use chi_replay::{answer, config_of};
+use chi_replay::answer;
 use chi_script::{Check, CheckFile, Command, Fault, read_checks};
 use chi_slice::{Config, LineView};
 use std::alloc::Allocator;
@@ -101,11 +101,10 @@ fn count_script<A: Allocator + Copy>(
     counts: &mut [u64],
 ) -> Result<(), NoMemory>
     requires { length counts.old ≡ place_count }
-    ensures { OnOk result (IsCountedScript script.now.header fillers.now
+    ensures { OnOk result (IsCountedRun script.now.header fillers.now
         (map line_of_check script.now.checks.items) counts.old counts.new) }
 {
-    let config = config_of(&script.header);
-    count_run(alloc, &config, &script.checks, fillers, counts)
+    count_run(alloc, &script.header, &script.checks, fillers, counts)
 }
 
 /// The same of the commands of a file, whose bytes these are; else its first fault, and nothing is counted, or

@@ -1,7 +1,7 @@
 //! What stands of one agent and one line.
 
 ghost use Rattle.std.specs.Prelude.{◌≡◌, ◌<◌};
-ghost use Rattle.chi_coverage.specs.Scenes.{any_other, is_other, owner_seen, scene_at, scene_named, scene_of};
+ghost use Rattle.chi_coverage.specs.Scenes.{any_other, owner_seen, scene_at, scene_named, scene_of};
 
 use chi_flit::{Agent, State};
 use chi_slice::{Cells, LineView, Pending, Serving, Waiting};
@@ -55,24 +55,12 @@ fn owner_seen(owner: Option<Agent>, agent: Agent) -> OwnerSeen
 
 /// Whether an agent other than this one has a mark.
 fn any_other(marks: &[bool; 8], agent: Agent) -> bool
+    requires { agent.0 < 8 }
     ensures { result ≡ any_other marks.now agent }
 {
-    is_other(marks, agent, 0)
-        || is_other(marks, agent, 1)
-        || is_other(marks, agent, 2)
-        || is_other(marks, agent, 3)
-        || is_other(marks, agent, 4)
-        || is_other(marks, agent, 5)
-        || is_other(marks, agent, 6)
-        || is_other(marks, agent, 7)
-}
-
-/// Whether the agent of this number has a mark, and is another one.
-fn is_other(marks: &[bool; 8], agent: Agent, number: u8) -> bool
-    requires { number < 8 }
-    ensures { result ≡ is_other marks.now agent number }
-{
-    marks[usize::from(number)] && agent.0 != number
+    let mut others = *marks;
+    others[usize::from(agent.0)] = false;
+    others.iter().any(|marked| *marked)
 }
 
 /// What stands of an agent at a line, where the line is there and the agent is one of eight.

@@ -3,12 +3,13 @@
 ghost use Rattle.std.specs.Prelude.{◌≡◌};
 ghost use Rattle.chi_coverage.specs.Sharing.{shared_after_answer, answer_data_cell, data_cell, is_shared_read, is_shared_start, memory_cell, passed_cell, sharing_after, start_data_cell};
 
-use crate::cells::{Cell, Form, Verb, cell_if};
+use crate::cells::{Cell, Form, cell_if};
 use crate::completions::completion_cell;
 use crate::scenes::{OwnerSeen, Scene, scene_at};
 use crate::situations::Situation;
 use crate::snoops::answered_form;
 use chi_flit::{Agent, Kind};
+use chi_script::Verb;
 use chi_slice::{LineView, Serving, Waiting};
 
 /// What dirty data has done at a line so far.

@@ -1,9 +1,7 @@
 //! The situations that are cells.
 
-ghost use Rattle.std.specs.Prelude.{◌≡◌, Some};
+ghost use Rattle.std.specs.Prelude.{◌≡◌};
 ghost use Rattle.chi_coverage.specs.Situations.{situation_section, situation_text};
-
-use std::fmt;
 
 /// A situation that is a cell by itself, with no operand.
 /// Source: `docs/PROTOCOL.md`, the sections that `section` names.
@@ -36,7 +34,8 @@ pub(crate) enum Situation {
 }
 
 impl Situation {
-    fn name(self) -> &'static str
+    /// Its name.
+    pub(crate) fn name(self) -> &'static str
         ensures { result.now ≡ situation_text self }
     {
         match self {
@@ -71,13 +70,5 @@ impl Situation {
             Situation::IssueBehindAck | Situation::IssueBehindWrite => "Slots and accounts",
             Situation::TendIdle | Situation::OwnGrant => "Steps of the tracker",
         }
-    }
-}
-
-impl fmt::Display for Situation {
-    ghost output = { λ situation. Some (situation_text situation) };
-
-    fn fmt<W: fmt::Write>(&self, f: &mut fmt::Formatter<W>) -> fmt::Result {
-        f.write_str(self.name())
     }
 }

@@ -33,11 +33,11 @@ pub(crate) fn snoop_cells(scene: &Scene) -> [Option<Cell>; 3]
 {
     match (scene.flits.snp, scene.pending) {
         (Some(snoop), Some(pending)) => [
-            Some(Cell::Snooped(scene.state, snoop)),
+            Some(Cell::Snooped(snoop, scene.state)),
             Some(Cell::Crossed(snoop, pending.kind, scene.state)),
             Some(Cell::CrossedAt(pending.kind, stage_of(pending.phase, scene))),
         ],
-        (Some(snoop), None) => [Some(Cell::Snooped(scene.state, snoop)), None, None],
+        (Some(snoop), None) => [Some(Cell::Snooped(snoop, scene.state)), None, None],
         (None, _) => NO_CELLS,
     }
 }
@@ -65,7 +65,7 @@ pub(crate) fn answer_cells(scene: &Scene, after: &Option<LineView>) -> [Option<C
             let is_owner = matches!(scene.owner, OwnerSeen::Itself);
             let after = scene_at(after, agent);
             [
-                Some(Cell::Answer(form, kind, !scene.awaits_others)),
+                Some(Cell::Answer(kind, form, !scene.awaits_others)),
                 Some(Cell::AnswerOf(form, is_owner)),
                 completion_cell(kind, &after, true),
             ]

@@ -3,7 +3,7 @@
 ghost use Rattle.std.specs.Prelude.{◌≡◌};
 ghost use Rattle.chi_coverage.specs.Steps.{done_cells, scene_cells};
 
-use crate::cells::{Cell, NO_CELLS, Verb};
+use crate::cells::{Cell, NO_CELLS};
 use crate::completions::{comp_cells, write_cells};
 use crate::named::Named;
 use crate::requests::{arrive_cells, copy_cells, issue_cells, pending_cells, start_cells};
@@ -11,6 +11,7 @@ use crate::scenes::{Scene, scene_at};
 use crate::snoops::{answer_cells, snoop_cells};
 use chi_flit::{Agent, Profile};
 use chi_replay::Reply;
+use chi_script::Verb;
 use chi_slice::LineView;
 
 /// The cells of a command that is done at a line.

@@ -35,15 +35,15 @@ use Rattle.chi_explain.specs.Explained.{line_action}
 use Rattle.chi_explain.specs.Sent.{busy_in, flit_agent, new_flit, sent_below, sent_between, sent_of_agent, served_or}
 
 -- a channel has what it had, or nothing
-abbrev IsNoneNew : {A : Type 0} → Option A → Option A → Type 0
+abbrev pub IsNoneNew : {A : Type 0} → Option A → Option A → Type 0
 IsNoneNew before after = (after ≡ before) ⊎ (after ≡ None)
 
-record NoneNew (before after : Cells) : Type 0 where
-  req : IsNoneNew before.req after.req
-  rsp_down : IsNoneNew before.rsp_down after.rsp_down
-  dat_down : IsNoneNew before.dat_down after.dat_down
-  rsp_up : IsNoneNew before.rsp_up after.rsp_up
-  dat_up : IsNoneNew before.dat_up after.dat_up
+pub record NoneNew (before after : Cells) : Type 0 where
+  pub req : IsNoneNew before.req after.req
+  pub rsp_down : IsNoneNew before.rsp_down after.rsp_down
+  pub dat_down : IsNoneNew before.dat_down after.dat_down
+  pub rsp_up : IsNoneNew before.rsp_up after.rsp_up
+  pub dat_up : IsNoneNew before.dat_up after.dat_up
 
 none_new : {A : Type 0} (n : Agent) (f : A → Msg) (before after : Option A) → IsNoneNew before after → new_flit n (is_some before) (option_map f after) ≡ []
 none_new n f None None h = refl
@@ -57,7 +57,7 @@ all_none a b c d e p q r s t = subst (λ (x : List Observed). x ++ (b ++ (c ++ (
     (subst (λ (x : List Observed). x ++ (d ++ e) ≡ []) (sym r)
     (subst (λ (x : List Observed). x ++ e ≡ []) (sym s) t)))
 
-nothing_sent : (n : Agent) (before after : Cells) → NoneNew before after → sent_of_agent n (busy_in before) after ≡ []
+pub nothing_sent : (n : Agent) (before after : Cells) → NoneNew before after → sent_of_agent n (busy_in before) after ≡ []
 unfolding sent_of_agent
 nothing_sent n before after none = all_none _ _ _ _ _
     (none_new n _ before.req after.req none.req)
@@ -66,7 +66,7 @@ nothing_sent n before after none = all_none _ _ _ _ _
     (none_new n _ before.rsp_up after.rsp_up none.rsp_up)
     (none_new n _ before.dat_up after.dat_up none.dat_up)
 
-as_before : (before after : Cells) → after ≡ before → NoneNew before after
+pub as_before : (before after : Cells) → after ≡ before → NoneNew before after
 as_before before after e = record {
   req = inl (ap (λ (c : Cells). c.req) e);
   rsp_down = inl (ap (λ (c : Cells). c.rsp_down) e);
@@ -75,10 +75,10 @@ as_before before after e = record {
   dat_up = inl (ap (λ (c : Cells). c.dat_up) e);
 }
 
-snooped : (before : Cells) (snoop : Snoop) → NoneNew before (record before { snp = Some snoop })
+pub snooped : (before : Cells) (snoop : Snoop) → NoneNew before (record before { snp = Some snoop })
 snooped before snoop = record { req = inl refl; rsp_down = inl refl; dat_down = inl refl; rsp_up = inl refl; dat_up = inl refl }
 
-answered : (before : Cells) (answer : SnoopAnswer) → NoneNew before (without_message before (answer_channel answer))
+pub answered : (before : Cells) (answer : SnoopAnswer) → NoneNew before (without_message before (answer_channel answer))
 answered before answers.I = record { req = inl refl; rsp_down = inl refl; dat_down = inl refl; rsp_up = inr refl; dat_up = inl refl }
 answered before answers.SC = record { req = inl refl; rsp_down = inl refl; dat_down = inl refl; rsp_up = inr refl; dat_up = inl refl }
 answered before (answers.IPD words) = record { req = inl refl; rsp_down = inl refl; dat_down = inl refl; rsp_up = inl refl; dat_up = inr refl }
@@ -207,10 +207,10 @@ sent_by_one before after w low elsewhere = ⊎_elim
     (one_sends before after w.0 elsewhere 8 (omega arith))
 
 -- of a slice's line 0
-abbrev SendsBy : LineState → LineState → Agent → Type 0
+abbrev pub SendsBy : LineState → LineState → Agent → Type 0
 SendsBy old new w = sent_between old new ≡ sent_of_agent w (busy_in (cells_of old w.0)) (cells_of new w.0)
 
-action_sends : (s : SliceState) (agent : Agent) (step : Step) → (flit_agent (line s 0) agent step).0 < 8
+pub action_sends : (s : SliceState) (agent : Agent) (step : Step) → (flit_agent (line s 0) agent step).0 < 8
     → SendsBy (line s 0) (line (slice_after s (line_action agent step)) 0) (flit_agent (line s 0) agent step)
 action_sends s agent step low = go (cases_lt (row_of_line s 0) (length s.lines))
   where

@@ -11,7 +11,7 @@ use Rattle.chi_flit.specs.declared.message.Msg.TheVariants as messages
 use Rattle.chi_flit.specs.declared.numbers.Agent.{Agent}
 use Rattle.chi_flit.specs.declared.snoop.Snoop.{Snoop}
 use Rattle.chi_slice.specs.Protocol.{SliceStep}
-use Rattle.chi_slice.specs.Slice.{SliceState, action_refusal, line}
+use Rattle.chi_slice.specs.Slice.{SliceState, action_refusal, line, slice_after}
 use Rattle.chi_explain.specs.declared.explanations.Unexplained.{Unexplained}
 use Rattle.chi_explain.specs.declared.explanations.Unexplained.TheVariants as causes
 use Rattle.chi_explain.specs.declared.explanations.WitnessItem.{WitnessItem}
@@ -40,9 +40,9 @@ abbrev pub shown_after : List Bool → Agent → Step → List Bool
 shown_after shown agent steps.RecvSnp = slice_set shown agent.0 false
 shown_after shown agent other = shown
 
--- the action is enabled, and is done by the protocol, with this effect
+-- the action is enabled, and is done by the protocol, with this effect; the slice is what the action leaves of it
 abbrev pub IsAct : SliceState → Action → Effect → SliceState → Type 0
-IsAct s action effect s' = (action_refusal s action ≡ None) × SliceStep s action effect s'
+IsAct s action effect s' = (action_refusal s action ≡ None) × SliceStep s action effect s' × (s' ≡ slice_after s action)
 
 -- An agent's step is done with this effect, and sends the flits that were seen next, but for snoops. Which snoops in
 -- flight were seen, and what is still to be seen, is given before it and after it.

@@ -4,7 +4,7 @@ use Rattle.std.specs.List.{All}
 use Rattle.chi_slice.specs.Words.{line_view, Cells, LineView, Sizes}
 use Rattle.chi_flit.specs.declared.state.State.TheVariants.{I}
 use Rattle.chi_slice.specs.Servings.{Idle}
-use Rattle.chi_slice.specs.Slice.{SliceState, last_of, line}
+use Rattle.chi_slice.specs.Slice.{SliceKept, SliceState, last_of, line}
 
 -- the home names nobody, and nothing is pending, waits or is served
 pub record IsUntouched (view : LineView) : Type 0 where
@@ -28,9 +28,9 @@ pub record IsOpen (memory : List ℕ) (view : LineView) : Type 0 where
   pub quiet : IsUntouched view
   pub flits : All (λ cells. are_empty cells ≡ true) view.flits
 
--- a slice whose line 0 is open
+-- a slice whose line 0 is open, and that keeps what a slice keeps
 abbrev pub IsOpenAt : List ℕ → SliceState → Type 0
-IsOpenAt memory s = IsOpen memory (line_view (line s 0) (last_of s 0))
+IsOpenAt memory s = IsOpen memory (line_view (line s 0) (last_of s 0)) × SliceKept s
 
 -- a slice of this size whose line 0 is open, if there is one
 abbrev pub IsOpenedIf : Sizes → List ℕ → Option SliceState → Type 0

@@ -86,6 +86,8 @@ fn do_all<A: Allocator>(slice: &mut Slice<A>, steps: &[Step])
 fn is_open_at<A: Allocator>(slice: &Slice<A>, memory: &Data) -> bool
     ensures { IsTrue result → IsOpenAt memory.now slice.now }
 {
+    // The call tells what a slice keeps.
+    let _kept = slice.row_for(STORER, LINE);
     match slice.view(LINE) {
         Ok(view) => is_open(&view, memory),
         Err(_) => false,

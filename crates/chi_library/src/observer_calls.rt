@@ -1,6 +1,6 @@
 //! The calls on an observer, for C.
 
-ghost use Rattle.std.specs.Prelude.{◌≡◌, IfOk, None, Some};
+ghost use Rattle.std.specs.Prelude.{◌≡◌, IfOk, None, Some, option_map};
 ghost use Rattle.chi_observe.specs.Benches.{benched, nothing_benched};
 ghost use Rattle.chi_observe.specs.Tallies.{tallied};
 ghost use Rattle.chi_library.specs.Calls.{IsOpeningCall, answer_number, output_of};
@@ -10,6 +10,7 @@ ghost use Rattle.chi_library.specs.ObserverCalls.{IsFaultTold, IsFaultTextTold, 
 ghost use Rattle.chi_library.specs.ObserverTold.{no_account, no_counts, no_id, opening_at};
 ghost use Rattle.chi_library.specs.SavedSlices.{AreBytesTold};
 ghost use Rattle.chi_library.specs.SeenFlits.{seen_of};
+ghost use Rattle.chi_library.specs.Snapshots.{IsCompared, IsCopied};
 
 use crate::answers::{ALREADY_OPEN, CLOSED, DONE, NO_MEMORY, NO_ROOM, OUT_OF_RANGE};
 use crate::observer_handle::ChiObserver;
@@ -200,6 +201,59 @@ pub extern "C" fn chi_observer_account(
     }
 }
 
+/// Copies the observer of `from`: `to` holds an observer that is the same, and each goes on by itself. What `to` held before
+/// is closed. All memory that the copy ever needs is taken here.
+///
+/// Answers 0; 8 where memory runs out, and 255 where `from` is closed: `to` is then as it was. `from` stays in each case.
+/// Source: `docs/LIBRARY.md`, "An observer".
+#[unsafe(no_mangle)]
+pub extern "C" fn chi_observer_copy(
+    alloc: Global,
+    to: &mut ChiObserver,
+    from: &mut ChiObserver,
+) -> u8
+    ensures copied { IsCopied (option_map benched from.old.value) (option_map benched to.old.value)
+        result (option_map benched to.new.value) }
+    ensures from { from.new.value ≡ from.old.value }
+{
+    match from.take(alloc) {
+        Some(held) => {
+            let answer = copy_into(alloc, to, &held);
+            from.put(held);
+            answer
+        }
+        None => CLOSED,
+    }
+}
+
+/// Whether two observers are the same: what they were opened for, what their flits have told and by which numbers, which ids
+/// and accounts are held in which places, and the first fault. `equal` is 1 where they are, and 0 where not.
+///
+/// Answers 0, or 255 where one of them is closed; `equal` is 0 then. Nothing changes.
+/// Source: `docs/LIBRARY.md`, "Snapshots".
+#[unsafe(no_mangle)]
+pub extern "C" fn chi_observer_equal(
+    alloc: Global,
+    one: &mut ChiObserver,
+    other: &mut ChiObserver,
+    equal: &mut u8,
+) -> u8
+    ensures compared { IsCompared (option_map benched one.old.value) (option_map benched other.old.value)
+        result equal.new }
+    ensures one { one.new.value ≡ one.old.value }
+    ensures other { other.new.value ≡ other.old.value }
+{
+    *equal = 0;
+    match one.take(alloc) {
+        Some(held) => {
+            let answer = compare(alloc, &held, other, equal);
+            one.put(held);
+            answer
+        }
+        None => CLOSED,
+    }
+}
+
 /// Closes the handle and frees the observer.
 ///
 /// Answers 0, or 255 of a closed handle.
@@ -235,6 +289,54 @@ fn boxed_observer(alloc: Global, opening: &Opening) -> Result<Box<BenchWatch<Glo
 {
     let observer = BenchWatch::new(alloc, opening.options, opening.room)?;
     Ok(Box::new(alloc, observer)?)
+}
+
+/// Copies an observer into a handle, whose own is closed.
+fn copy_into(alloc: Global, to: &mut ChiObserver, observer: &BenchWatch<Global>) -> u8
+    ensures { IsCopied (Some (benched observer.now)) (option_map benched to.old.value)
+        result (option_map benched to.new.value) }
+{
+    match boxed_copy(alloc, observer) {
+        Ok(copy) => {
+            to.take(alloc);
+            to.put(copy);
+            DONE
+        }
+        Err(_) => NO_MEMORY,
+    }
+}
+
+/// A copy of an observer on the heap.
+fn boxed_copy(
+    alloc: Global,
+    observer: &BenchWatch<Global>,
+) -> Result<Box<BenchWatch<Global>>, NoMemory>
+    ensures { IfOk result (λ copy. benched copy.value ≡ benched observer.now) }
+{
+    let copy = observer.clone_in(alloc)?;
+    Ok(Box::new(alloc, copy)?)
+}
+
+/// Compares an observer with that of a handle.
+fn compare(
+    alloc: Global,
+    observer: &BenchWatch<Global>,
+    other: &mut ChiObserver,
+    equal: &mut u8,
+) -> u8
+    requires { equal.old ≡ 0 }
+    ensures compared { IsCompared (Some (benched observer.now)) (option_map benched other.old.value)
+        result equal.new }
+    ensures other { other.new.value ≡ other.old.value }
+{
+    match other.take(alloc) {
+        Some(held) => {
+            *equal = u8::from(observer.equals(&held));
+            other.put(held);
+            DONE
+        }
+        None => CLOSED,
+    }
 }
 
 /// Takes a flit.

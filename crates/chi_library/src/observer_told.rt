@@ -2,7 +2,7 @@
 
 ghost use Rattle.std.specs.Prelude.{◌≡◌, ◌≤◌};
 ghost use Rattle.chi_observe.specs.Ids.{sides_of};
-ghost use Rattle.chi_library.specs.ObserverTold.{account_told, aside_line, aside_number, bit, copy_number, counts_told, differing, differs_number, early_at, expected_words, facts_told, fault_told, form_number, id_number, id_reason_number, id_told, is_size, judged_number, key_form, key_number, kind_number, lacks_mask, least, least_byte, line_address, line_number, line_reason_number, mask_of, node_number, opening_at, purpose_number, reason_number, room_at, rule_number, snoop_number, told_number, type_number, types_at, wanted_number, words_differ};
+ghost use Rattle.chi_library.specs.ObserverTold.{account_told, aside_line, aside_number, bit, copy_number, counts_told, differing, differs_number, early_at, expected_words, facts_told, fault_told, form_number, id_number, id_reason_number, id_told, is_size, judged_number, key_form, key_number, kind_number, lacks_mask, least, least_byte, line_address, line_number, line_reason_number, mask_of, node_number, opening_at, purpose_number, reason_number, room_at, rule_number, snoop_number, stores_at, told_number, type_number, types_at, wanted_number, words_differ};
 
 use crate::answers::{DONE, FAULT, FULL, NO_MEMORY, SET_ASIDE};
 use crate::numbers::flag_number;
@@ -14,13 +14,13 @@ use crate::opcodes::{
 };
 use chi_flit::{Data, NO_DATA};
 use chi_observe::{
-    Account, Aside, CacheLine, CreditTypes, FaultFacts, IdKey, IdReason, Judged, LineReason,
+    Account, Aside, CacheLine, CreditTypes, FaultFacts, IdKey, IdReason, Judged, LineReason, Log,
     OpenId, Purpose, Room, Sides, Tally, WatchFault, WatchOptions,
 };
-use chi_observer::{Kind, Reason, Snoop, Told};
+use chi_observer::{Kind, Reason, Snoop, Stores, Told};
 use chi_trace::{NodeId, PcrdType};
 
-/// What an observer is opened for: `ChiObserverConfig` of `chihome.h`.
+/// What an observer is opened for: `ChiObserverConfig` of `chihome.h`. `reserved` is padding in C, and isn't read.
 /// Source: `docs/LIBRARY.md`, "An observer".
 #[repr(C)]
 #[derive(Clone, Copy)]
@@ -32,6 +32,8 @@ pub struct ChiObserverConfig {
     pub homes: u8,
     pub types: u8,
     pub early_grants: u8,
+    pub stores: u8,
+    pub reserved: [u8; 3],
 }
 
 /// The first flit that isn't taken: `ChiObserverFault` of `chihome.h`. Where there is none all numbers are 0, but that no
@@ -223,6 +225,17 @@ fn early_at(number: u8) -> Option<bool>
     }
 }
 
+/// Whether stores may be hidden, of a number.
+fn stores_at(number: u8) -> Option<Stores>
+    ensures { result ≡ stores_at number }
+{
+    match number {
+        0 => Some(Stores::Hidden),
+        1 => Some(Stores::Listed),
+        _ => None,
+    }
+}
+
 /// Whether a table may have so many.
 fn is_size(number: u32) -> bool
     ensures { result ≡ is_size number }
@@ -256,9 +269,12 @@ pub(crate) fn opening_at(config: &ChiObserverConfig) -> Option<Opening>
     let room = room_at(config)?;
     let types = types_at(config.types)?;
     let early_grants = early_at(config.early_grants)?;
+    let stores = stores_at(config.stores)?;
     let options = WatchOptions {
         types,
         early_grants,
+        stores,
+        log: Log::Whole,
     };
     Some(Opening { options, room })
 }

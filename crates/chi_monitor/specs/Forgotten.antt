@@ -1,8 +1,8 @@
 -- What a monitor of a line forgets, so that what it keeps has a fixed size (docs/TRACES.md, "A monitor").
 use Rattle.std.specs.Prelude.{◌≡◌, ℕ, Bool, true, false, List, [], nat_le}
 use Rattle.chi_monitor.specs.declared.line.Draft.{Draft}
-use Rattle.chi_monitor.specs.declared.line.Service.{Service}
-use Rattle.chi_monitor.specs.declared.line.Service.TheVariants.{Snooping}
+use Rattle.chi_monitor.specs.declared.home_turns.Service.{Service}
+use Rattle.chi_monitor.specs.declared.home_turns.Service.TheVariants.{Snooping}
 
 abbrev pub is_snooping : Service → Bool
 is_snooping (Snooping group) = true

@@ -7,7 +7,7 @@ use crate::faults::{Basis, LineFault, SeenAt, WrongForm, WrongSnoops};
 use chi_flit::{Kind, State};
 
 /// By whether the standard allows no such flit.
-fn basis_if(is_standard: bool) -> Basis
+pub(crate) fn basis_if(is_standard: bool) -> Basis
     ensures { result ≡ basis_if is_standard }
 {
     if is_standard {

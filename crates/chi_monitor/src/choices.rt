@@ -5,8 +5,7 @@ ghost use Rattle.std.specs.Prelude.{◌≡◌, ◌<◌, IfOk, OnOk};
 ghost use Rattle.chi_monitor.specs.Choices.{AreInterchangeable, is_alike, is_same_way};
 
 use crate::faults::{LineFault, SeenAt};
-use crate::line::Search;
-use crate::search::{line_behind, take};
+use crate::search::{LineSearch, line_behind, take};
 use chi_explain::{Observed, SentFlit, StoreListing};
 use chi_flit::{
     Agent, CompData, DatUp, Kind, Msg, NO_DATA, Request, RspDown, RspUp, Slot, Snoop, State, WordNo,
@@ -104,7 +103,7 @@ fn is_same_way(one: &Msg, other: &Msg) -> bool
 /// What may stand in its place.
 fn candidates<A: Allocator + Copy>(
     alloc: A,
-    search: &Search<A>,
+    search: &LineSearch<A>,
     seen: &Observed,
 ) -> Result<Vec<Observed, A>, LineFault> {
     match seen {
@@ -118,7 +117,7 @@ fn candidates<A: Allocator + Copy>(
 /// The load of what the copy has in the word, and a store to it.
 fn accesses<A: Allocator>(
     alloc: A,
-    search: &Search<A>,
+    search: &LineSearch<A>,
     agent: Agent,
     word: WordNo,
     value: u64,
@@ -126,7 +125,7 @@ fn accesses<A: Allocator>(
     requires agents { agent.0 < 8 }
     requires words { word.0 < 8 }
 {
-    let has = search.words_of(agent)[usize::from(word.0)];
+    let has = search.known.words_of(agent)[usize::from(word.0)];
     let mut accesses = Vec::new(alloc);
     accesses.push(Observed::Load(agent, word, has))?;
     accesses.push(Observed::Store(agent, word, value))?;
@@ -136,7 +135,7 @@ fn accesses<A: Allocator>(
 /// The flits of the requester in the same direction.
 fn flits<A: Allocator + Copy>(
     alloc: A,
-    search: &Search<A>,
+    search: &LineSearch<A>,
     flit: &SentFlit,
 ) -> Result<Vec<Observed, A>, LineFault>
     requires { flit.now.agent.0 < 8 }
@@ -153,7 +152,7 @@ fn flits<A: Allocator + Copy>(
 /// The messages of the same direction.
 fn messages<A: Allocator + Copy>(
     alloc: A,
-    search: &Search<A>,
+    search: &LineSearch<A>,
     flit: &SentFlit,
 ) -> Result<Vec<Msg, A>, LineFault>
     requires { flit.now.agent.0 < 8 }
@@ -190,7 +189,7 @@ fn snoops<A: Allocator>(alloc: A) -> Result<Vec<Msg, A>, LineFault> {
 
 fn completions<A: Allocator>(
     alloc: A,
-    search: &Search<A>,
+    search: &LineSearch<A>,
     agent: Agent,
 ) -> Result<Vec<Msg, A>, LineFault>
     requires { agent.0 < 8 }
@@ -200,7 +199,7 @@ fn completions<A: Allocator>(
     messages.push(Msg::RspDown(RspDown::CompUC))?;
     messages.push(Msg::RspDown(RspDown::CompI))?;
     messages.push(Msg::RspDown(RspDown::CompDBIDResp))?;
-    let words = search.given();
+    let words = search.known.given();
     for unique in [true, false] {
         messages.push(Msg::DatDown(CompData { words, unique }))?;
     }
@@ -209,12 +208,12 @@ fn completions<A: Allocator>(
 
 fn answers<A: Allocator>(
     alloc: A,
-    search: &Search<A>,
+    search: &LineSearch<A>,
     agent: Agent,
 ) -> Result<Vec<Msg, A>, LineFault>
     requires { agent.0 < 8 }
 {
-    let words = search.words_of(agent);
+    let words = search.known.words_of(agent);
     let mut messages = Vec::new(alloc);
     messages.push(Msg::RspUp(RspUp::SnpRespI))?;
     messages.push(Msg::RspUp(RspUp::SnpRespSC))?;

@@ -1,7 +1,7 @@
 //! Explanations that were found by the search, and done by chi_explain: that they hold is proved.
 
-ghost use Rattle.std.specs.Prelude.{IfErr, IfOk, IfSome, length};
-ghost use Rattle.chi_monitor.specs.Places.{IsWithin};
+ghost use Rattle.std.specs.Prelude.{IfErr, IfOk, IfSome};
+ghost use Rattle.chi_monitor.specs.Places.{IsToldFault};
 ghost use Rattle.chi_explain.specs.Explained.{IsExplained};
 
 use crate::faults::LineFault;
@@ -35,7 +35,7 @@ pub fn explain_flits<A: Allocator + Copy>(
 ) -> Result<Witness<A>, NoExplanation>
     ensures explained { IfOk result
         (λ witness. IsExplained config.now stores witness.memory witness.items.items seen.now) }
-    ensures told { IfErr result (IsWithin (length seen.now)) }
+    ensures told { IfErr result (IsToldFault config.now stores seen.now) }
 {
     let witness = search_line(alloc, config, stores, seen)?;
     match explain_line(alloc, config, stores, witness.memory, &witness.items, seen) {
@@ -53,7 +53,7 @@ pub fn first_fault<A: Allocator + Copy>(
     stores: StoreListing,
     seen: &[Observed],
 ) -> Option<NoExplanation>
-    ensures { IfSome result (IsWithin (length seen.now)) }
+    ensures { IfSome result (IsToldFault config.now stores seen.now) }
 {
     search_line(alloc, config, stores, seen).err()
 }

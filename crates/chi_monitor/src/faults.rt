@@ -1,5 +1,8 @@
 //! Why no run of the model sends a flit, or does a load or a store, and what told it.
-//! Not trusted, as the search that tells it: that a fault is one is tested.
+//! Not trusted, as the search that tells it: that a settled one is a fault is proved (`is_settled`), of others it is tested.
+
+ghost use Rattle.std.specs.Prelude.{◌≡◌};
+ghost use Rattle.chi_monitor.specs.declared.faults.LineFault.TheVariants as faults;
 
 use chi_explain::StoreListing;
 use chi_flit::{Agent, CreditType, Kind, Snoop, State, WordNo};
@@ -21,6 +24,8 @@ pub struct Reach {
     pub pending: bool,
     /// What has told the last known one; `None` of a requester that never had a copy.
     pub since: Option<SeenAt>,
+    /// That was the value of a load: a store was done that wasn't seen.
+    pub loaded: bool,
 }
 
 /// A word whose value is known, and what has shown it; `None` where no flit has to.
@@ -153,23 +158,17 @@ pub enum LineFault {
 }
 
 impl From<AllocError> for LineFault {
+    ghost from_gives = { λ lack fault. fault ≡ faults.NoMemory };
+
     fn from(_lack: AllocError) -> LineFault {
         LineFault::NoMemory
     }
 }
 
 impl<T: Drop> From<AllocFailed<T>> for LineFault {
+    ghost from_gives = { λ lack fault. fault ≡ faults.NoMemory };
+
     fn from(_lack: AllocFailed<T>) -> LineFault {
         LineFault::NoMemory
-    }
-}
-
-impl Reach {
-    /// Whether a copy that was in UC may be in UD by now.
-    pub(crate) fn is_written(&self) -> bool {
-        matches!(
-            (self.base, self.stores, self.pending),
-            (State::UC, StoreListing::Partial, false)
-        )
     }
 }

@@ -7,10 +7,12 @@
 mod bases;
 mod choices;
 mod completions;
+mod copies;
 mod explained;
 mod fault_texts;
 mod faults;
 mod filter;
+mod home_turns;
 mod line;
 mod line_monitor;
 mod monitor;
@@ -20,6 +22,7 @@ mod requester;
 mod requests;
 mod search;
 mod snoops;
+mod turns;
 mod values;
 mod writes;
 

@@ -1,18 +1,18 @@
-//! What the flits so far have shown of a line, and the actions that explain them.
+//! What the flits so far have shown of a line's copies and words, and the actions that explain them.
 //! Not trusted: chi_explain does again what the search finds, and compares.
 
-ghost use Rattle.std.specs.Prelude.{◌≡◌, ◌<◌, OnOk};
-ghost use Rattle.chi_monitor.specs.Forgotten.{IsForgotten, is_snooping};
+ghost use Rattle.std.specs.Prelude.{◌≡◌, ◌<◌, IfErr, IfSome, OnOk, false, true};
+ghost use Rattle.chi_monitor.specs.Forgotten.{IsForgotten};
+ghost use Rattle.chi_monitor.specs.Places.{is_settled};
 
-use crate::faults::{Basis, LineFault, Reach, SeenAt};
-use crate::filter::{AgentSet, KnownFilter};
-use crate::requester::{Given, KnownRequester};
+use crate::copies::may_hide;
+use crate::faults::{Basis, KnownWord, LineFault, Reach, SeenAt};
+use crate::home_turns::{Service, is_snooping};
+use crate::requester::KnownRequester;
+use crate::turns::{Turns, turn_of};
 use crate::values::{SeenWords, Unknown, UnknownWords, Values};
 use chi_explain::{StoreListing, WitnessItem};
-use chi_flit::{
-    Agent, CreditType, Data, Kind, Profile, Slot, Snoop, State, Step, WordNo, credit_type,
-};
-use chi_slice::Config;
+use chi_flit::{Agent, Data, State, Step, WordNo};
 use std::alloc::Allocator;
 
 /// An item of an explanation, in which a stored value may be unknown.
@@ -25,47 +25,19 @@ pub(crate) enum Draft {
     Seen(WitnessItem),
 }
 
-/// A group of snoops, whose request a completion tells.
-#[derive(Clone, Copy)]
-pub(crate) struct Group {
-    pub(crate) snoop: Snoop,
-    /// Whose request it may be.
-    pub(crate) may_be: AgentSet,
-    pub(crate) snooped: AgentSet,
-    pub(crate) answered: AgentSet,
-    /// The items that are to name whose it is: an Admit, and the Start behind it.
-    pub(crate) at: usize,
-    /// Its first snoop.
-    pub(crate) since: SeenAt,
-}
-
-/// What the home does.
-#[derive(Clone, Copy)]
-pub(crate) enum Service {
-    Idle,
-    Snooping(Group),
-    /// The CompAck to the completion that was seen then.
-    AwaitingAck(Agent, SeenAt),
-    /// The write data that the CompDBIDResp asks for which was seen then.
-    AwaitingWriteData(Agent, Kind, SeenAt),
-}
-
-/// A line as the flits so far have shown it.
+/// What the flits so far have shown of a line's copies and words, and the items that explain them.
 #[derive(Drop)]
 pub(crate) struct Search<A: Allocator> {
-    pub(crate) profile: Profile,
-    /// How many agents there are.
-    pub(crate) agents: u8,
     pub(crate) stores: StoreListing,
     pub(crate) values: Values<A>,
     pub(crate) opening: UnknownWords,
     pub(crate) memory: UnknownWords,
-    pub(crate) filter: KnownFilter,
-    pub(crate) service: Service,
     pub(crate) requesters: [KnownRequester; 8],
     /// The message by which each agent has answered.
     pub(crate) answers: [Option<Answer>; 8],
     pub(crate) items: Vec<Draft, A>,
+    /// The items that are to name whose a group of snoops is: an Admit, and the Start behind it.
+    pub(crate) group_at: usize,
 }
 
 /// What an answer to a snoop does to the home.
@@ -81,35 +53,25 @@ pub(crate) enum Answer {
     Shared(UnknownWords),
 }
 
-/// Whether a group of snoops has no completion yet, which tells whose it is.
-fn is_snooping(service: &Service) -> bool
-    ensures { result ≡ is_snooping service.now }
-{
-    matches!(service, Service::Snooping(_))
-}
-
 /// Whether the words that were seen are all 0.
 pub(crate) fn are_zeros(seen: &SeenWords) -> bool {
     seen.iter().all(|word| word.unwrap_or(0) == 0)
 }
 
 impl<A: Allocator + Copy> Search<A> {
-    /// A line of such a node that nobody has a copy of, and nothing is known of its memory.
-    pub fn new(alloc: A, config: &Config, stores: StoreListing) -> Result<Search<A>, LineFault> {
+    /// A line that nobody has a copy of, and nothing is known of its memory.
+    pub fn new(alloc: A, stores: StoreListing) -> Result<Search<A>, LineFault> {
         let mut values = Values::new(alloc);
         let memory = values.unknown_line()?;
         Ok(Search {
-            profile: config.profile(),
-            agents: config.agents(),
             stores,
             values,
             opening: memory,
             memory,
-            filter: KnownFilter::NONE,
-            service: Service::Idle,
             requesters: [KnownRequester::NONE; 8],
             answers: [None; 8],
             items: Vec::new(alloc),
+            group_at: 0,
         })
     }
 }
@@ -118,26 +80,6 @@ impl<A: Allocator> Search<A> {
     /// The number of what is seen now.
     pub(crate) fn now(&self) -> SeenAt {
         self.values.number
-    }
-
-    /// The slot of the agent's request, or the first one.
-    pub fn slot_of(&self, agent: Agent) -> Slot
-        requires { agent.0 < 8 }
-    {
-        match self.at(agent).asked {
-            Some(asked) => asked.slot,
-            None => Slot(0),
-        }
-    }
-
-    /// The type of the agent's request, or the first one.
-    pub fn credit_of(&self, agent: Agent) -> CreditType
-        requires { agent.0 < 8 }
-    {
-        match self.at(agent).asked {
-            Some(asked) => credit_type(self.profile, asked.kind),
-            None => CreditType::T0,
-        }
     }
 
     /// The items of the explanation so far.
@@ -167,10 +109,7 @@ impl<A: Allocator> Search<A> {
         requires { agent.0 < 8 }
     {
         let side = self.at(agent);
-        match side.given {
-            Some(Given::Data(_, words, _)) => words,
-            Some(Given::Unique(_)) | None => side.words,
-        }
+        side.given.unwrap_or(side.words)
     }
 
     /// The values of words, as far as they are known; 0 where they aren't.
@@ -194,7 +133,10 @@ impl<A: Allocator> Search<A> {
         self.values.line(&words)
     }
 
-    pub(crate) fn act(&mut self, agent: Agent, step: Step) -> Result<(), LineFault> {
+    /// The agent's step is one more item.
+    pub(crate) fn act(&mut self, agent: Agent, step: Step) -> Result<(), LineFault>
+        ensures { IfErr result (λ fault. is_settled fault ≡ false) }
+    {
         self.items.push(Draft::Act(agent, step))?;
         Ok(())
     }
@@ -214,25 +156,39 @@ impl<A: Allocator> Search<A> {
 
     /// Whether stores may have been done that weren't seen.
     pub(crate) fn may_hide(&self) -> bool {
-        matches!(self.stores, StoreListing::Partial)
+        may_hide(self.stores)
     }
 
-    /// The states that a requester's copy may be in by now.
-    pub(crate) fn reach(&self, side: &KnownRequester) -> Reach {
-        Reach {
-            base: side.base,
-            stores: self.stores,
-            pending: !side.is_free(),
-            since: side.since,
+    /// The states that the agent's copy may be in by now.
+    pub(crate) fn reach(&self, turns: &Turns, agent: Agent) -> Reach
+        requires { agent.0 < 8 }
+    {
+        match self.loaded_reach(turns, agent) {
+            Some(reach) => reach,
+            None => turn_of(turns, agent).reach(self.stores),
+        }
+    }
+
+    /// The same where the value of a load has told that the copy is in UD.
+    pub(crate) fn loaded_reach(&self, turns: &Turns, agent: Agent) -> Option<Reach>
+        requires { agent.0 < 8 }
+        ensures { IfSome result (λ reach. reach.loaded ≡ true) }
+    {
+        match self.at(agent).loaded {
+            Some(at) => Some(Reach {
+                base: State::UD,
+                since: Some(at),
+                loaded: true,
+                ..turn_of(turns, agent).reach(self.stores)
+            }),
+            None => None,
         }
     }
 
     /// Stores the words, one after the other.
-    pub(crate) fn store_all(
-        &mut self,
-        agent: Agent,
-        words: &UnknownWords,
-    ) -> Result<(), LineFault> {
+    pub(crate) fn store_all(&mut self, agent: Agent, words: &UnknownWords) -> Result<(), LineFault>
+        ensures { IfErr result (λ fault. is_settled fault ≡ false) }
+    {
         for (number, word) in words.iter().enumerate() {
             self.items
                 .push(Draft::Store(agent, WordNo(number as u8), *word))?;
@@ -241,62 +197,68 @@ impl<A: Allocator> Search<A> {
     }
 
     /// A load of the agent that read this value.
-    pub fn load(&mut self, agent: Agent, word: WordNo, value: u64) -> Result<(), LineFault>
+    pub fn load(
+        &mut self,
+        turns: &Turns,
+        agent: Agent,
+        word: WordNo,
+        value: u64,
+    ) -> Result<(), LineFault>
         requires agents { agent.0 < 8 }
         requires words { word.0 < 8 }
+        ensures { IfErr result (λ fault. is_settled fault ≡ false) }
     {
-        let mut side = self.at(agent);
-        if !side.base.is_valid() {
-            return Err(LineFault::NoCopy(self.reach(&side)));
-        }
+        let side = self.at(agent);
         let held = side.words[usize::from(word.0)];
-        if !self.values.is_now(held, value) {
-            let stored = matches!(side.base, State::UC | State::UD) && side.asked.is_none();
-            if !stored || !self.may_hide() {
-                return Err(self.word_fault(&side, word, held));
+        match self.values.known_word(held) {
+            Some(known) if known.value != value => {
+                self.store_before(turns, agent, word, value, known)?;
             }
-            let now = self.values.known_one(value)?;
-            self.items.push(Draft::Store(agent, word, now))?;
-            side.words[usize::from(word.0)] = now;
-            side.stand(State::UD, self.now());
-            self.put(agent, side);
+            Some(_) | None => self.values.bind(held, Some(value)),
         }
         self.items
             .push(Draft::Seen(WitnessItem::Load(agent, word, value)))?;
         Ok(())
     }
 
-    /// The fault of a load that reads another value: that no store is done while a request is pending is a choice of the
-    /// profile.
-    fn word_fault(&self, side: &KnownRequester, word: WordNo, held: Unknown) -> LineFault {
-        let basis = if side.base.is_unique() && self.may_hide() {
-            Basis::Profile
-        } else {
-            Basis::Standard
-        };
-        match self.values.known_word(held) {
-            Some(known) => LineFault::Word(word, known, basis),
-            None => LineFault::NoAgent,
+    /// Before a load that read this value there was a store, where one may be hidden: the copy had another value. That
+    /// none is done while a request is pending is a choice of the profile.
+    fn store_before(
+        &mut self,
+        turns: &Turns,
+        agent: Agent,
+        word: WordNo,
+        value: u64,
+        known: KnownWord,
+    ) -> Result<(), LineFault>
+        requires agents { agent.0 < 8 }
+        requires words { word.0 < 8 }
+        ensures { IfErr result (λ fault. is_settled fault ≡ false) }
+    {
+        let mut side = self.at(agent);
+        let turn = turn_of(turns, agent);
+        let may = turn.copy.base.is_unique() && self.may_hide();
+        if !may || !turn.is_free() {
+            let basis = if may { Basis::Profile } else { Basis::Standard };
+            return Err(LineFault::Word(word, known, basis));
         }
+        let now = self.values.known_one(value)?;
+        self.items.push(Draft::Store(agent, word, now))?;
+        side.words[usize::from(word.0)] = now;
+        side.loaded = Some(self.now());
+        self.put(agent, side);
+        Ok(())
     }
 
     /// A store of the agent that wrote this value.
     pub fn store(&mut self, agent: Agent, word: WordNo, value: u64) -> Result<(), LineFault>
         requires agents { agent.0 < 8 }
         requires words { word.0 < 8 }
+        ensures { IfErr result (λ fault. is_settled fault ≡ false) }
     {
         let mut side = self.at(agent);
-        if let Some(asked) = side.asked {
-            return Err(LineFault::Pending(asked.since));
-        }
-        match side.base {
-            State::UC | State::UD => {}
-            State::I | State::SC | State::SD => {
-                return Err(LineFault::NoStore(self.reach(&side)));
-            }
-        }
         side.words[usize::from(word.0)] = self.values.known_one(value)?;
-        side.stand(State::UD, self.now());
+        side.loaded = None;
         self.put(agent, side);
         self.items
             .push(Draft::Seen(WitnessItem::Store(agent, word, value)))?;
@@ -304,13 +266,13 @@ impl<A: Allocator> Search<A> {
     }
 
     /// Forgets the items that no flit can change any more, and the words that the line hasn't.
-    pub fn forget(&mut self) -> Result<(), LineFault>
-        ensures { OnOk result (IsForgotten self.new.service self.new.items.items) }
+    pub fn forget(&mut self, service: &Service) -> Result<(), LineFault>
+        ensures { OnOk result (IsForgotten service.now self.new.items.items) }
     {
         if self.values.are_many() {
             self.forget_words()?;
         }
-        if !is_snooping(&self.service) {
+        if !is_snooping(service) {
             self.items.clear();
         }
         Ok(())
@@ -322,7 +284,7 @@ impl<A: Allocator> Search<A> {
         self.values.keep(&mut self.memory)?;
         for side in self.requesters.iter_mut() {
             self.values.keep(&mut side.words)?;
-            if let Some(Given::Data(_, words, _)) = &mut side.given {
+            if let Some(words) = &mut side.given {
                 self.values.keep(words)?;
             }
         }

@@ -6,10 +6,9 @@ ghost use Rattle.chi_monitor.specs.Watched.{IsToldOf, has_no_room, unwatched_lin
 
 use crate::explained::explain_flits;
 use crate::faults::{LineFault, SeenAt};
-use crate::line::Search;
 use crate::monitor::NotExplained;
 use crate::open_flits::OpenFlits;
-use crate::search::take;
+use crate::search::{LineSearch, take};
 use chi_explain::{Observed, SentFlit, StoreListing};
 use chi_slice::Config;
 use std::alloc::Allocator;
@@ -22,7 +21,7 @@ pub(crate) struct LineMonitor<A: Allocator> {
     room: usize,
     flits: Vec<Observed, A>,
     open_flits: [OpenFlits; 8],
-    search: Search<A>,
+    search: LineSearch<A>,
 }
 
 impl<A: Allocator> Model for LineMonitor<A> {
@@ -38,7 +37,7 @@ impl<A: Allocator + Copy> LineMonitor<A> {
     pub fn new(alloc: A, config: &Config, room: usize) -> Result<LineMonitor<A>, LineFault>
         ensures { IfOk result (λ w. w ≡ unwatched_line room) }
     {
-        let search = Search::new(alloc, config, StoreListing::Partial)?;
+        let search = LineSearch::new(alloc, config, StoreListing::Partial)?;
         let flits = Vec::with_capacity(alloc, room)?;
         Ok(LineMonitor {
             room,

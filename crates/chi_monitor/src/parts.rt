@@ -2,8 +2,7 @@
 //! Not trusted: chi_explain does again what the search finds, and compares.
 
 use crate::faults::{LineFault, SeenAt};
-use crate::line::Search;
-use crate::search::{take_part, words_in};
+use crate::search::{LineSearch, take_part, words_in};
 use crate::values::{SeenWords, UnknownWords};
 use chi_explain::{Observed, StoreListing};
 use chi_flit::{DatUp, Data, Msg, NO_DATA, NoMemory, State};
@@ -27,11 +26,11 @@ fn words_at(seen: &Observed, parts: &[PartSeen], place: usize) -> SeenWords {
 }
 
 /// The words that data has which was just taken; `None` where it has none of a copy.
-fn just_sent<A: Allocator>(search: &Search<A>, seen: &Observed) -> Option<UnknownWords> {
+fn just_sent<A: Allocator>(search: &LineSearch<A>, seen: &Observed) -> Option<UnknownWords> {
     match seen {
         Observed::Flit(flit) if flit.agent.0 < 8 => match flit.message {
             Msg::DatUp(DatUp::CopyBackWrData(State::I, _)) => None,
-            _ => Some(search.words_at(flit.agent)),
+            _ => Some(search.known.words_at(flit.agent)),
         },
         _ => None,
     }
@@ -48,7 +47,7 @@ pub fn words_of_run<A: Allocator + Copy>(
     parts: &[PartSeen],
     place: usize,
 ) -> Result<Data, NoMemory> {
-    let mut search = match Search::new(alloc, config, stores) {
+    let mut search = match LineSearch::new(alloc, config, stores) {
         Ok(search) => search,
         Err(_) => return Err(NoMemory),
     };
@@ -69,7 +68,7 @@ pub fn words_of_run<A: Allocator + Copy>(
         }
     }
     match sent {
-        Some(words) => Ok(search.values_of(&words)),
+        Some(words) => Ok(search.known.values_of(&words)),
         None => Ok(NO_DATA),
     }
 }

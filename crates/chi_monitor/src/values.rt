@@ -162,7 +162,7 @@ impl<A: Allocator> Values<A> {
     }
 
     /// The word has the value from now on, if one was seen.
-    fn bind(&mut self, word: Unknown, value: Option<u64>) {
+    pub fn bind(&mut self, word: Unknown, value: Option<u64>) {
         let Some(value) = value else {
             return;
         };
@@ -178,15 +178,6 @@ impl<A: Allocator> Values<A> {
     /// A word of this value.
     pub fn known_one(&mut self, value: u64) -> Result<Unknown, AllocError> {
         self.add(Some(value))
-    }
-
-    /// Whether the word may have the value; then it has it from now on.
-    pub fn is_now(&mut self, word: Unknown, value: u64) -> bool {
-        let may = self.may_be(word, Some(value));
-        if may {
-            self.bind(word, Some(value));
-        }
-        may
     }
 
     /// Whether the words may have these values, of those that were seen; then they have them from now on.

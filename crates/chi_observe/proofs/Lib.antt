@@ -4,3 +4,11 @@ pub mod ReportLemmas
 pub mod MarkLemmas
 pub mod LineLemmas
 mod RoomLemmas
+pub mod CopyLemmas
+mod LastLemmas
+mod EqualFlits
+mod EqualIds
+mod EqualLines
+mod EqualWatches
+mod EqualTables
+mod EqualParts

@@ -26,6 +26,7 @@ use Rattle.chi_observe.specs.declared.ids.IdKey.{IdKey}
 use Rattle.chi_observe.specs.declared.ids.KeyNumbers.{KeyNumbers}
 use Rattle.chi_observe.specs.declared.ids.OpenId.{OpenId}
 use Rattle.chi_observe.specs.declared.reasons.IdReason.{IdReason}
+use Rattle.chi_observe.specs.declared.reasons.IdReason.TheVariants.{NotOpen}
 use Rattle.chi_observe.specs.declared.tables.Change.{Change}
 use Rattle.chi_observe.specs.declared.tables.Part.{Part}
 use Rattle.chi_observe.specs.declared.tables.Part.TheVariants as parts
@@ -33,13 +34,13 @@ use Rattle.chi_observe.specs.declared.steps.WatchOptions.{WatchOptions}
 use Rattle.chi_observe.specs.declared.watch.Aside.{Aside}
 use Rattle.chi_observe.specs.declared.watch.Counts.{Counts}
 use Rattle.chi_observe.specs.Credits.{account_numbers, booked, booked_all, is_same_account, with_event}
-use Rattle.chi_observe.specs.Bounded.{IsWithin, access_fits_at, account_fits, adds_requester, allowed_fits, booking_fits, fits, frees_of, has_room, ids_behind, is_account_new, is_new, is_opened_as, line_fits, nodes_fit, number_of, opens_account, rest_fits}
+use Rattle.chi_observe.specs.Bounded.{IsWithin, access_fits, access_fits_at, account_fits, adds_requester, allowed_fits, booking_fits, fits, frees_of, has_room, ids_behind, is_account_new, is_new, is_opened_as, line_fits, nodes_fit, number_of, opens_account, rest_fits}
 use Rattle.chi_observe.specs.Ids.{has_numbers_of, is_same_numbers, numbers_of, opened_at, with_id, without}
 use Rattle.chi_observe.specs.Lines.{home_of}
 use Rattle.chi_observe.specs.Nodes.{adds_home, with_home, with_requester}
 use Rattle.chi_observe.specs.Grants.{granted, returned}
 use Rattle.chi_observe.specs.Steps.{ids_after}
-use Rattle.chi_observe.specs.Watched.{Watched, access_after, access_agent, access_next, counts_access, agent_in, table_in, allowed, beat_after, booking_after, by_part, counts_after, counts_aside, counts_first, credit_after, flit_after, line_after, nothing_watched, step, told_after}
+use Rattle.chi_observe.specs.Watched.{Watched, access_after, access_agent, access_counted, access_next, access_seen, counts_access, agent_in, table_in, allowed, beat_after, booking_after, by_part, counts_after, counts_aside, counts_first, credit_after, flit_after, left_over_after, line_after, nothing_watched, step, told_after, unopened_after}
 
 -- none passes where there are no hits, and some where there are
 abbrev Counted : ℕ → ℕ → Type 0
@@ -360,12 +361,36 @@ module _ (room : Room) (w w' : Watched) (h : IsWithin room w) where
     part_within parts.Further fits q = subst (IsWithin room) (same_some _ _ q) beat_within
     part_within (parts.Last tells) fits q = told_within fits q
 
+  same_within : (n : Counts) → n.lines ≡ w.counts.lines → (past : ℕ → ℕ) (named : List (KeyNumbers × OpenId)) → IsWithin room (record w { counts = n; past = past; named = named })
+  same_within n same past named = record {
+    requesters = h.requesters;
+    homes = h.homes;
+    ids = h.ids;
+    accounts = h.accounts;
+    lines = subst (λ (k : ℕ). k ≤ room.lines) (sym same) h.lines;
+  }
+
+  unopened_within : (e : LineEvent) (reason : IdReason) → unopened_after w e reason ≡ Some w' → IsWithin room w'
+  unopened_within e (NotOpen key) q = by _ q
+    where
+      by : (b : Bool) → cond b (Some (left_over_after w e key)) None ≡ Some w' → IsWithin room w'
+      by true p = subst (IsWithin room) (same_some _ _ p) (same_within _ refl _ _)
+      by false p = none_isn't w' p
+  unopened_within e reason q = none_isn't w' q
+
   line_within : (e : LineEvent) (r : Result Change IdReason) → allowed_fits room w e r ≡ true → line_after w e r ≡ Some w' → IsWithin room w'
   line_within e (Ok change) fits q = let both = and_parts _ _ fits in part_within e change both.0 change.part both.1 q
-  line_within e (Err reason) fits q = none_isn't w' q
+  line_within e (Err reason) fits q = unopened_within e reason q
+
+  counted_within : IsWithin room (access_counted w)
+  counted_within = same_within (counts_access None w.counts) refl w.past w.named
 
   access_within : (e : AccessEvent) (home : Option NodeId) → access_fits_at room w e home ≡ true → access_after w e home ≡ Some w' → IsWithin room w'
-  access_within e None fits q = none_isn't w' q
+  access_within e None fits q = by _ q
+    where
+      by : (b : Bool) → cond b (Some (access_counted w)) None ≡ Some w' → IsWithin room w'
+      by true p = subst (IsWithin room) (same_some _ _ p) counted_within
+      by false p = none_isn't w' p
   access_within e (Some home) fits q = by _ q
     where
       next : IsWithin room (access_next w e home)
@@ -381,10 +406,17 @@ module _ (room : Room) (w w' : Watched) (h : IsWithin room w) where
       by true p = subst (IsWithin room) (same_some _ _ p) next
       by false p = none_isn't w' p
 
+  seen_within : (e : AccessEvent) → access_fits room w e ≡ true → access_seen w e ≡ Some w' → IsWithin room w'
+  seen_within e fits = by _
+    where
+      by : (b : Bool) → cond b (Some (access_counted w)) (access_after w e (home_of (w.lines e.line.0))) ≡ Some w' → IsWithin room w'
+      by true q = subst (IsWithin room) (same_some _ _ q) counted_within
+      by false q = access_within e (home_of (w.lines e.line.0)) fits q
+
   pub within : (e : Event) → fits room w e ≡ true → step w e ≡ Some w' → IsWithin room w'
-  within (events.Access e) f q = access_within e (home_of (w.lines e.line.0)) f q
+  within (events.Access e) f q = seen_within e f q
   within (events.Granted sides pcrd) f q = credit_within (granted w.options (table_in w) sides pcrd) f q
-  within (events.Returned sides pcrd) f q = credit_within (returned (table_in w) sides pcrd) f q
+  within (events.Returned sides pcrd) f q = credit_within (returned w.options (table_in w) sides pcrd) f q
   within (events.Line e) f q = line_within e (allowed w e) f q
 
 pub nothing_within : (room : Room) (options : WatchOptions) → IsWithin room (nothing_watched options)

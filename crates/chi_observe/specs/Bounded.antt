@@ -125,7 +125,7 @@ access_fits room w e = access_fits_at room w e (home_of (w.lines e.line.0))
 abbrev pub fits : Room → Watched → Event → Bool
 fits room w (events.Access e) = access_fits room w e
 fits room w (events.Granted sides pcrd) = booking_fits room w (granted w.options (table_in w) sides pcrd)
-fits room w (events.Returned sides pcrd) = booking_fits room w (returned (table_in w) sides pcrd)
+fits room w (events.Returned sides pcrd) = booking_fits room w (returned w.options (table_in w) sides pcrd)
 fits room w (events.Line e) = allowed_fits room w e (allowed w e)
 
 -- where there is, it is taken as a watch takes it; or it isn't, for a reason that holds, and nothing has changed. `Full`

@@ -1,5 +1,5 @@
 -- Credits that are granted and returned (docs/OBSERVER.md, "Ids and credits").
-use Rattle.std.specs.Prelude.{ℕ, ◌==◌, ◌&&◌, Bool, false, List, Result, Ok, Err, if◌then◌else◌}
+use Rattle.std.specs.Prelude.{ℕ, ◌==◌, ◌&&◌, ◌||◌, not, Bool, false, List, Result, Ok, Err, if◌then◌else◌}
 use Rattle.std.specs.List.{count_by}
 use Rattle.std.specs.Map.{values_of}
 use Rattle.chi_trace.specs.declared.fields.PcrdType.{PcrdType}
@@ -16,6 +16,7 @@ use Rattle.chi_observe.specs.declared.reasons.IdReason.{IdReason}
 use Rattle.chi_observe.specs.declared.reasons.IdReason.TheVariants.{NothingRetried, NoCredit}
 use Rattle.chi_observe.specs.declared.steps.WatchOptions.{WatchOptions}
 use Rattle.chi_observe.specs.Credits.{may_grant, unused_of}
+use Rattle.chi_observe.specs.Judges.{is_cut}
 use Rattle.chi_observe.specs.Tables.{Table, booking_of}
 
 -- A credit is granted only where a retried request waits for one, or with early grants a first attempt is on its way.
@@ -37,15 +38,18 @@ attempts sides ids = count_by (is_attempt sides) (values_of ids)
 abbrev pub early_of : WatchOptions → Table → Sides → ℕ
 early_of options table sides = if options.early_grants then attempts sides table.ids else 0
 
-abbrev pub granted_booking : Sides → PcrdType → ℕ → Booking → Result Booking IdReason
-granted_booking sides pcrd early booking = if may_grant booking.account early then Ok booking else Err (NothingRetried sides pcrd)
+abbrev pub granted_booking : WatchOptions → Sides → PcrdType → ℕ → Booking → Result Booking IdReason
+granted_booking options sides pcrd early booking = if is_cut options || may_grant booking.account early then Ok booking else Err (NothingRetried sides pcrd)
 
 abbrev pub granted : WatchOptions → Table → Sides → PcrdType → Result Booking IdReason
-granted options table sides pcrd = granted_booking sides pcrd (early_of options table sides) (booking_of table sides pcrd events.Granted)
+granted options table sides pcrd = granted_booking options sides pcrd (early_of options table sides) (booking_of table sides pcrd events.Granted)
 
--- A credit is returned only where there is one.
-abbrev pub returned_booking : Sides → PcrdType → Booking → Result Booking IdReason
-returned_booking sides pcrd booking = if unused_of booking.account == 0 then Err (NoCredit sides pcrd) else Ok booking
+-- A credit is returned only where there is one. Of a trace that is cut out of a longer one none is missed.
+abbrev pub lacks_credit : WatchOptions → Booking → Bool
+lacks_credit options booking = not (is_cut options) && (unused_of booking.account == 0)
 
-abbrev pub returned : Table → Sides → PcrdType → Result Booking IdReason
-returned table sides pcrd = returned_booking sides pcrd (booking_of table sides pcrd events.Returned)
+abbrev pub returned_booking : WatchOptions → Sides → PcrdType → Booking → Result Booking IdReason
+returned_booking options sides pcrd booking = if lacks_credit options booking then Err (NoCredit sides pcrd) else Ok booking
+
+abbrev pub returned : WatchOptions → Table → Sides → PcrdType → Result Booking IdReason
+returned options table sides pcrd = returned_booking options sides pcrd (booking_of table sides pcrd events.Returned)

@@ -7,6 +7,8 @@ pub mod Beats
 pub mod Unknown
 pub mod Grants
 pub mod Marks
+pub mod Judges
+pub mod LeftOver
 pub mod Lines
 pub mod Events
 pub mod Nodes
@@ -19,3 +21,4 @@ pub mod Pending
 pub mod Tallies
 pub mod Recent
 pub mod Reports
+pub mod Comparisons

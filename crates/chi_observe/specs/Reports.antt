@@ -6,8 +6,7 @@ use Rattle.chi_script.specs.Devices.{AppendsFront}
 use Rattle.chi_script.specs.Files.{lines_of}
 use Rattle.chi_script.specs.declared.faults.Fault.{Fault}
 use Rattle.chi_script.specs.declared.faults.Fault.TheVariants as faults
-use Rattle.chi_trace.specs.declared.faults.TraceFault.{TraceFault}
-use Rattle.chi_trace.specs.declared.faults.TraceFault.TheVariants.{NoMemory, TooLarge, MissingNewline, FewWords, BadWord}
+use Rattle.chi_trace.specs.Malformed.{malformed_front}
 use Rattle.chi_observe.specs.declared.reports.ObserveOutcome.{ObserveOutcome}
 use Rattle.chi_observe.specs.declared.reports.ObserveOutcome.TheVariants as outcomes
 use Rattle.chi_observe.specs.declared.steps.WatchOptions.{WatchOptions}
@@ -51,13 +50,6 @@ accepted_line counts = codes "accepted " ++ (decimal counts.flits ++ (codes " fl
 
 abbrev pub numbered : ℕ → List ℕ
 numbered n = codes "line " ++ (decimal n ++ codes ": ")
-
-abbrev pub malformed_front : TraceFault → List ℕ
-malformed_front NoMemory = codes "chihome: "
-malformed_front TooLarge = codes "chihome: "
-malformed_front (MissingNewline line) = codes "chihome: line " ++ (decimal line ++ codes ": missing newline")
-malformed_front (FewWords line) = codes "chihome: line " ++ (decimal line ++ codes ": fewer than eleven words")
-malformed_front (BadWord line column) = codes "chihome: line " ++ (decimal line ++ codes ": ")
 
 abbrev pub IsReportText : ObserveOutcome → List ℕ → Type 0
 IsReportText (outcomes.Accepted counts) text = BeginsWith (accepted_line counts) text

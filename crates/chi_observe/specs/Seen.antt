@@ -1,5 +1,5 @@
 -- What each line of a trace is to a watch, a row for each opcode (docs/OBSERVER.md, "A trace of many lines").
-use Rattle.std.specs.Prelude.{ℕ, ◌/◌, List, Option, Some, None, replicate}
+use Rattle.std.specs.Prelude.{ℕ, ◌/◌, ◌%◌, List, Option, Some, None, replicate}
 use Rattle.chi_flit.specs.declared.kind.Kind.{Kind}
 use Rattle.chi_flit.specs.declared.kind.Kind.TheVariants as kinds
 use Rattle.chi_flit.specs.declared.snoop.Snoop.{Snoop}
@@ -31,6 +31,7 @@ use Rattle.chi_observer.specs.declared.kinds.Kind.TheVariants as told_kind
 use Rattle.chi_observer.specs.declared.kinds.Snoop as told_snoops
 use Rattle.chi_observer.specs.declared.kinds.Snoop.TheVariants as told_snoop
 use Rattle.chi_observer.specs.declared.flits.Act.{Act}
+use Rattle.chi_observer.specs.declared.flits.Word.{Word}
 use Rattle.chi_observer.specs.declared.flits.Act.TheVariants as acts
 use Rattle.chi_observer.specs.declared.flits.Answer.TheVariants as answers
 use Rattle.chi_observer.specs.declared.flits.Grant.TheVariants as grants
@@ -169,6 +170,10 @@ abbrev pub read_event : AnySeen → Transaction → Resp → Option DbId → Bea
 read_event s t resp dbid beat = down s t.target t.address (steps.ReadData t.txn dbid beat.there) (read_told resp beat)
 
 -- a load or a store: its words aren't judged
+-- the word at an address
+abbrev pub word_of : Address → ℕ → Word
+word_of address value = record { place = record { 0 = address.0 % 64 / 8 }; value = value }
+
 abbrev pub access_event : AnySeen → Address → Act → Event
 access_event s address act = events.Access (record { number = s.line; requester = s.source; line = line_of address; tells = Sent act no_data })
 
@@ -187,8 +192,8 @@ profile_event s (flits.CompAck t) = up s t.target t.address (steps.Acknowledge (
 profile_event s (flits.CompData resp dbid t beat) = read_event s t resp (Some dbid) beat
 profile_event s (flits.SnpRespData resp t beat) = up s t.target t.address (steps.AnswerData t.txn beat.there) (answer_data_told resp beat)
 profile_event s (flits.CopyBackWrData resp t beat) = up s t.target t.address (steps.WriteData (named_buffer t) beat.there) (written_told resp beat)
-profile_event s (flits.Load address value) = access_event s address acts.Load
-profile_event s (flits.Store address value) = access_event s address acts.Store
+profile_event s (flits.Load address value) = access_event s address (acts.Load (word_of address value))
+profile_event s (flits.Store address value) = access_event s address (acts.Store (word_of address value))
 
 -- and any other
 abbrev pub event_by : AnySeen → AnyFlit → Event

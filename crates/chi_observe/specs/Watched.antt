@@ -1,5 +1,5 @@
 -- A watch over a trace: what its flits have told, and which flits it takes (docs/OBSERVER.md, "A trace of many lines").
-use Rattle.std.specs.Prelude.{◌≡◌, ℕ, ◌+◌, ◌||◌, Bool, true, false, not, List, [], Option, Some, None, Result, Ok, Err, if◌then◌else◌, is_none, unwrap_or}
+use Rattle.std.specs.Prelude.{◌≡◌, ℕ, ◌+◌, ◌||◌, Bool, true, false, not, List, [], Option, Some, None, Result, Ok, Err, if◌then◌else◌, is_none, replicate, unwrap_or}
 use Rattle.chi_flit.specs.declared.numbers.Agent.{Agent}
 use Rattle.chi_trace.specs.declared.fields.NodeId.{NodeId}
 use Rattle.chi_observer.specs.declared.observer.Reason.TheVariants.{NotSent}
@@ -17,11 +17,12 @@ use Rattle.chi_observe.specs.declared.events.LineEvent.{LineEvent}
 use Rattle.chi_observe.specs.declared.events.Tells.{Tells}
 use Rattle.chi_observe.specs.declared.events.Tells.TheVariants.{NoForm, Unjudged}
 use Rattle.chi_observe.specs.declared.ids.CacheLine.{CacheLine}
+use Rattle.chi_observe.specs.declared.ids.IdKey.{IdKey}
 use Rattle.chi_observe.specs.declared.ids.KeyNumbers.{KeyNumbers}
 use Rattle.chi_observe.specs.declared.ids.OpenId.{OpenId}
 use Rattle.chi_observe.specs.declared.ids.Sides.{Sides}
 use Rattle.chi_observe.specs.declared.reasons.IdReason.{IdReason}
-use Rattle.chi_observe.specs.declared.reasons.IdReason.TheVariants.{Form}
+use Rattle.chi_observe.specs.declared.reasons.IdReason.TheVariants.{Form, NotOpen}
 use Rattle.chi_observe.specs.declared.reasons.LineReason.{LineReason}
 use Rattle.chi_observe.specs.declared.reasons.LineReason.TheVariants.{Rule}
 use Rattle.chi_observe.specs.declared.tables.Change.{Change}
@@ -35,13 +36,16 @@ use Rattle.chi_observe.specs.declared.watch.WatchStop.{WatchStop}
 use Rattle.chi_observe.specs.declared.watch.WatchStop.TheVariants as stops
 use Rattle.chi_observe.specs.Credits.{booked, booked_all}
 use Rattle.chi_observe.specs.Events.{flit_by, news_of}
+use Rattle.chi_observe.specs.Judges.{Before, is_at_home, is_cut, last_of}
+use Rattle.chi_observe.specs.LeftOver.{is_left_over, last_behind, named_after, named_behind}
 use Rattle.chi_observe.specs.Lines.{LineState, home_of, is_aside, is_line_reason, is_put_aside, line_next, lines_in, put_line, state_at, takes_line}
 use Rattle.chi_observe.specs.Nodes.{agent_of, with_home, with_requester}
 use Rattle.chi_observe.specs.Grants.{granted, returned}
 use Rattle.chi_observe.specs.Steps.{change_of, ids_after}
 use Rattle.chi_observe.specs.Tables.{Table}
 
--- its nodes, the ids that are open, the credits, what is known of each line, and counts
+-- its nodes, the ids that are open, the credits, what is known of each line, and counts; of a trace that is cut out of a
+-- longer one of each agent the number of its last flit that names an id from before, and the ids that were named
 pub record Watched : Type 0 where
   pub options : WatchOptions
   pub requesters : List NodeId
@@ -50,6 +54,8 @@ pub record Watched : Type 0 where
   pub accounts : List (AccountNumbers × Account)
   pub lines : ℕ → Option LineState
   pub counts : Counts
+  pub past : ℕ → ℕ
+  pub named : List (KeyNumbers × OpenId)
 
 abbrev pub watched : {A : Type 0} → Watch A → Watched
 watched w = record {
@@ -60,6 +66,8 @@ watched w = record {
   accounts = w.accounts.entries;
   lines = lines_in w.lines.entries;
   counts = w.counts;
+  past = last_of w.last;
+  named = w.named.entries;
 }
 
 -- no flit was seen
@@ -67,7 +75,10 @@ abbrev pub nothing_counted : Counts
 nothing_counted = record { flits = 0; accesses = 0; lines = 0; aside = 0; first_aside = None }
 
 abbrev pub nothing_watched : WatchOptions → Watched
-nothing_watched options = record { options = options; requesters = []; homes = []; ids = []; accounts = []; lines = λ l. None; counts = nothing_counted }
+nothing_watched options = record { options = options; requesters = []; homes = []; ids = []; accounts = []; lines = λ l. None; counts = nothing_counted; past = last_of (replicate 32 0); named = [] }
+
+abbrev pub before_in : Watched → Before
+before_in w = record { log = w.options.log; stores = w.options.stores; last = w.past }
 
 abbrev pub table_in : Watched → Table
 table_in w = record { ids = w.ids; accounts = w.accounts; aside = λ l. is_aside (w.lines l) }
@@ -92,8 +103,11 @@ abbrev pub news_in : Watched → LineEvent → Change → LineNews
 news_in w e change = news_of e.tells change.part (agent_in w e)
 
 -- what it sets aside: a line that was judged so far
-abbrev pub mark_of : (ℕ → Option LineState) → CacheLine → LineNews → ℕ → Option Aside
-mark_of lines line told number = if is_aside (lines line.0) || not (is_put_aside (lines line.0) told) then None else Some (record { number = number; line = line })
+abbrev pub mark_if : Bool → CacheLine → ℕ → Option Aside
+mark_if aside line number = if aside then Some (record { number = number; line = line }) else None
+
+abbrev pub mark_of : Before → (ℕ → Option LineState) → CacheLine → NodeId → LineNews → ℕ → Option Aside
+mark_of before lines line home told number = mark_if (is_put_aside (state_at before lines number line home) (line_next before (state_at before lines number line home) number told)) line number
 
 -- a flit more, which is the first of its line, or sets it aside
 abbrev pub counts_first : Bool → Counts → Counts
@@ -120,8 +134,10 @@ flit_after w e change = record {
   homes = with_home (agent_in w e) e.sides.home w.homes;
   ids = ids_after e.number change w.ids;
   accounts = booked_all change.books w.accounts;
-  lines = put_line change.line (line_next (state_at w.lines e.number change.line e.sides.home) e.number (news_in w e change)) w.lines;
-  counts = counts_after change.part (mark_of w.lines change.line (news_in w e change) e.number) (is_none (w.lines change.line.0)) w.counts;
+  lines = put_line change.line (line_next (before_in w) (state_at (before_in w) w.lines e.number change.line e.sides.home) e.number (news_in w e change)) w.lines;
+  counts = counts_after change.part (mark_of (before_in w) w.lines change.line e.sides.home (news_in w e change) e.number) (is_none (w.lines change.line.0)) w.counts;
+  past = w.past;
+  named = named_after w.options change.frees w.named;
 }
 
 abbrev pub beat_after : Watched → LineEvent → Change → Watched
@@ -129,7 +145,7 @@ beat_after w e change = record w { ids = ids_after e.number change w.ids }
 
 -- what follows a flit of a line, if its line takes it
 abbrev pub told_after : Watched → LineEvent → Change → Option Watched
-told_after w e change = if takes_line (state_at w.lines e.number change.line e.sides.home) e.sides.home (news_in w e change) then Some (flit_after w e change) else None
+told_after w e change = if takes_line (before_in w) (state_at (before_in w) w.lines e.number change.line e.sides.home) e.sides.home e.number (news_in w e change) then Some (flit_after w e change) else None
 
 abbrev pub by_part : Watched → LineEvent → Change → Part → Option Watched
 by_part w e change parts.Whole = told_after w e change
@@ -137,9 +153,21 @@ by_part w e change parts.First = told_after w e change
 by_part w e change parts.Further = Some (beat_after w e change)
 by_part w e change (parts.Last tells) = told_after w e change
 
+-- a flit that names an id from before
+abbrev pub left_over_after : Watched → LineEvent → IdKey → Watched
+left_over_after w e key = record w {
+  counts = record w.counts { flits = w.counts.flits + 1 };
+  past = last_behind w.requesters e.sides.requester e.number w.past;
+  named = named_behind e key w.named;
+}
+
+abbrev pub unopened_after : Watched → LineEvent → IdReason → Option Watched
+unopened_after w e (NotOpen key) = if is_left_over w.options w.named e.step key then Some (left_over_after w e key) else None
+unopened_after w e reason = None
+
 abbrev pub line_after : Watched → LineEvent → Result Change IdReason → Option Watched
 line_after w e (Ok change) = by_part w e change change.part
-line_after w e (Err reason) = None
+line_after w e (Err reason) = unopened_after w e reason
 
 abbrev pub booking_after : Watched → Booking → Watched
 booking_after w booking = record w { accounts = booked booking w.accounts; counts = record w.counts { flits = w.counts.flits + 1 } }
@@ -158,37 +186,44 @@ access_news w e home = news.Flit (flit_by e.tells (access_agent w e home))
 abbrev pub access_next : Watched → AccessEvent → NodeId → Watched
 access_next w e home = record w {
   requesters = with_requester (access_agent w e home) e.requester w.requesters;
-  lines = put_line e.line (line_next (state_at w.lines e.number e.line home) e.number (access_news w e home)) w.lines;
-  counts = counts_access (mark_of w.lines e.line (access_news w e home) e.number) w.counts;
+  lines = put_line e.line (line_next (before_in w) (state_at (before_in w) w.lines e.number e.line home) e.number (access_news w e home)) w.lines;
+  counts = counts_access (mark_of (before_in w) w.lines e.line home (access_news w e home) e.number) w.counts;
 }
 
 abbrev pub access_told : Watched → AccessEvent → NodeId → Option Watched
-access_told w e home = if takes_line (state_at w.lines e.number e.line home) home (access_news w e home) then Some (access_next w e home) else None
+access_told w e home = if takes_line (before_in w) (state_at (before_in w) w.lines e.number e.line home) home e.number (access_news w e home) then Some (access_next w e home) else None
 
--- of a line that no flit has touched no cache has a copy
+-- of a line that no flit has touched no cache has a copy; where the trace is cut out of a longer one it may be any. A home
+-- sees none
+abbrev pub access_counted : Watched → Watched
+access_counted w = record w { counts = counts_access None w.counts }
+
 abbrev pub access_after : Watched → AccessEvent → Option NodeId → Option Watched
-access_after w e None = None
+access_after w e None = if is_cut w.options then Some (access_counted w) else None
 access_after w e (Some home) = access_told w e home
 
+abbrev pub access_seen : Watched → AccessEvent → Option Watched
+access_seen w e = if is_at_home w.options then Some (access_counted w) else access_after w e (home_of (w.lines e.line.0))
+
 abbrev pub is_access_reason : Watched → AccessEvent → Option NodeId → LineReason → Bool
-is_access_reason w e None (Rule NotSent) = true
+is_access_reason w e None (Rule NotSent) = not (is_cut w.options)
 is_access_reason w e None reason = false
-is_access_reason w e (Some home) reason = is_line_reason (state_at w.lines e.number e.line home) home (access_news w e home) reason
+is_access_reason w e (Some home) reason = is_line_reason (before_in w) (state_at (before_in w) w.lines e.number e.line home) home (access_news w e home) reason
 
 -- what follows the next line of a trace, if it is taken
 abbrev pub step : Watched → Event → Option Watched
-step w (events.Access e) = access_after w e (home_of (w.lines e.line.0))
+step w (events.Access e) = access_seen w e
 step w (events.Granted sides pcrd) = credit_after w (granted w.options (table_in w) sides pcrd)
-step w (events.Returned sides pcrd) = credit_after w (returned (table_in w) sides pcrd)
+step w (events.Returned sides pcrd) = credit_after w (returned w.options (table_in w) sides pcrd)
 step w (events.Line e) = line_after w e (allowed w e)
 
 -- why it isn't
 abbrev pub IsFault : Watched → Event → WatchFault → Type 0
 IsFault w (events.Line e) (faults.Ids reason) = allowed w e ≡ Err reason
-IsFault w (events.Line e) (faults.Line reason) = (change : Change) × (allowed w e ≡ Ok change) × (is_line_reason (state_at w.lines e.number change.line e.sides.home) e.sides.home (news_in w e change) reason ≡ true)
+IsFault w (events.Line e) (faults.Line reason) = (change : Change) × (allowed w e ≡ Ok change) × (is_line_reason (before_in w) (state_at (before_in w) w.lines e.number change.line e.sides.home) e.sides.home (news_in w e change) reason ≡ true)
 IsFault w (events.Access e) (faults.Line reason) = is_access_reason w e (home_of (w.lines e.line.0)) reason ≡ true
 IsFault w (events.Granted sides pcrd) (faults.Ids reason) = granted w.options (table_in w) sides pcrd ≡ Err reason
-IsFault w (events.Returned sides pcrd) (faults.Ids reason) = returned (table_in w) sides pcrd ≡ Err reason
+IsFault w (events.Returned sides pcrd) (faults.Ids reason) = returned w.options (table_in w) sides pcrd ≡ Err reason
 IsFault w e fault = ⊥
 
 -- what a flit of an agent leaves, but of its line
@@ -201,12 +236,14 @@ settled w e change agent mark fresh = record {
   accounts = booked_all change.books w.accounts;
   lines = w.lines;
   counts = counts_after change.part mark fresh w.counts;
+  past = w.past;
+  named = named_after w.options change.frees w.named;
 }
 
 -- a flit of a line that does this was taken, or its line refuses it and nothing has changed
 pub record IsLineRefused (old new : Watched) (e : LineEvent) (change : Change) (reason : LineReason) : Type 0 where
   pub refused : line_after old e (Ok change) ≡ None
-  pub holds : is_line_reason (state_at old.lines e.number change.line e.sides.home) e.sides.home (news_in old e change) reason ≡ true
+  pub holds : is_line_reason (before_in old) (state_at (before_in old) old.lines e.number change.line e.sides.home) e.sides.home (news_in old e change) reason ≡ true
   pub kept : new ≡ old
 
 abbrev pub IsFlitWatched : {A : Type 0} → Watched → Watched → LineEvent → Change → Result A WatchStop → Type 0
@@ -221,7 +258,7 @@ access_settled w e agent mark = record w { requesters = with_requester agent e.r
 
 pub record IsAccessRefused (old new : Watched) (e : AccessEvent) (home : NodeId) (reason : LineReason) : Type 0 where
   pub refused : access_told old e home ≡ None
-  pub holds : is_line_reason (state_at old.lines e.number e.line home) home (access_news old e home) reason ≡ true
+  pub holds : is_line_reason (before_in old) (state_at (before_in old) old.lines e.number e.line home) home (access_news old e home) reason ≡ true
   pub kept : new ≡ old
 
 abbrev pub IsAccessWatched : {A : Type 0} → Watched → Watched → AccessEvent → NodeId → Result A WatchStop → Type 0
@@ -229,6 +266,17 @@ IsAccessWatched old new e home (Ok done) = access_told old e home ≡ Some new
 IsAccessWatched old new e home (Err (stops.Fault (faults.Ids reason))) = ⊥
 IsAccessWatched old new e home (Err (stops.Fault (faults.Line reason))) = IsAccessRefused old new e home reason
 IsAccessWatched old new e home (Err stops.NoMemory) = Unit {0}
+
+-- so of a flit that ids and credits don't allow for this reason
+pub record IsUnopened (old new : Watched) (e : LineEvent) (reason : IdReason) : Type 0 where
+  pub untaken : unopened_after old e reason ≡ None
+  pub kept : new ≡ old
+
+abbrev pub IsUnopenedWatched : {A : Type 0} → Watched → Watched → LineEvent → IdReason → Result A WatchStop → Type 0
+IsUnopenedWatched old new e reason (Ok done) = unopened_after old e reason ≡ Some new
+IsUnopenedWatched old new e reason (Err (stops.Fault (faults.Ids other))) = (other ≡ reason) × IsUnopened old new e reason
+IsUnopenedWatched old new e reason (Err (stops.Fault (faults.Line other))) = ⊥
+IsUnopenedWatched old new e reason (Err stops.NoMemory) = Unit {0}
 
 -- so of a credit
 pub record IsCreditRefused (old new : Watched) (booking : Result Booking IdReason) (reason : IdReason) : Type 0 where

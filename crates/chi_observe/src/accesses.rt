@@ -1,10 +1,11 @@
 //! Loads and stores of a trace, among the flits of their lines.
 
 ghost use Rattle.std.specs.Prelude.{◌≡◌, OnOk};
-ghost use Rattle.chi_observe.specs.Watched.{IsAccessWatched, IsWatched, access_agent, access_settled, watched};
+ghost use Rattle.chi_observe.specs.Watched.{IsAccessWatched, IsWatched, access_agent, access_counted, access_settled, watched};
 
 use crate::events::{AccessEvent, Event, flit_by};
 use crate::ids::Sides;
+use crate::judges::Before;
 use crate::lines::{LineNews, LineStop, home_of, tell};
 use crate::nodes::{add_requester, agent_of};
 use crate::reasons::LineReason;
@@ -52,28 +53,57 @@ impl<A: Allocator + Copy> Watch<A> {
     {
         let agent = self.agent_at(event, home);
         let news = LineNews::Flit(flit_by(event.tells, agent));
-        let mark = mark_of(&self.lines, event.line, news, event.number);
+        let before = Before {
+            log: self.options.log,
+            stores: self.options.stores,
+            last: &self.last,
+        };
         match tell(
             &mut self.lines,
             &mut self.spare,
+            &before,
             event.line,
             home,
             news,
             event.number,
         ) {
-            Ok(_) => Ok(self.settle_access(event, agent, mark)?),
+            Ok(told) => {
+                let mark = mark_of(told, event.line, event.number);
+                Ok(self.settle_access(event, agent, mark)?)
+            }
             Err(LineStop::Refused(reason)) => { Err(WatchStop::Fault(WatchFault::Line(reason))) }
             Err(LineStop::NoMemory) => Err(WatchStop::NoMemory),
         }
     }
 
-    /// Takes a load or a store: none of a line that no flit has touched, as no cache has a copy of it.
+    /// Counts a load or a store that isn't judged: of a line that no flit has touched, of which nothing is known, or in a log
+    /// that is taken at the home.
+    fn count_access(&mut self) -> Result<(), AllocError>
+        ensures { OnOk result
+            (watched self.new ≡ access_counted (watched self.old)) }
+    {
+        let Some(counts) = self.counts.with_access(None) else {
+            return Err(AllocError);
+        };
+        self.counts = counts;
+        Ok(())
+    }
+
+    /// Takes a load or a store. A line that no flit has touched takes none, as no cache has a copy of it, but where the
+    /// trace is cut out of a longer one. A log that is taken at the home says nothing of when it was done.
     pub(crate) fn take_access(&mut self, event: &AccessEvent) -> Result<(), WatchStop>
         ensures { IsWatched (watched self.old) (watched self.new) (Event.Access event.now) result }
     {
+        if self.options.is_at_home() {
+            return Ok(self.count_access()?);
+        }
         match home_of(&self.lines, event.line) {
             Some(home) => self.take_access_at(event, home),
-            None => Err(WatchStop::Fault(WatchFault::Line(LineReason::Rule(Reason::NotSent)))),
+            None => if self.options.is_cut() {
+                Ok(self.count_access()?)
+            } else {
+                Err(WatchStop::Fault(WatchFault::Line(LineReason::Rule(Reason::NotSent))))
+            },
         }
     }
 }

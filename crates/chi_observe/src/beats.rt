@@ -19,7 +19,7 @@ fn is_word_again(lacks: bool, there: bool) -> bool
 }
 
 /// Whether a beat has some word that doesn't lack.
-fn is_again(lacks: &[bool; 8], there: &[bool; 8]) -> bool
+pub(crate) fn is_again(lacks: &[bool; 8], there: &[bool; 8]) -> bool
     ensures { result ≡ is_again lacks.now there.now }
 {
     let mut again = is_word_again(lacks[0], there[0]);
@@ -41,7 +41,7 @@ fn lacking(lacks: bool, there: bool) -> bool
 }
 
 /// The words that lack behind a beat.
-fn left_of(lacks: &[bool; 8], there: &[bool; 8]) -> [bool; 8]
+pub(crate) fn left_of(lacks: &[bool; 8], there: &[bool; 8]) -> [bool; 8]
     ensures { result ≡ left_of lacks.now there.now }
 {
     [

@@ -1,11 +1,10 @@
 //! A watch for a bench: it takes flits without an end, and keeps the first that isn't taken.
 
 ghost use Rattle.std.specs.Prelude.{◌≡◌, IfOk, None};
-ghost use Rattle.chi_observe.specs.Benches.{IsSeen, IsSeenNext, benched, is_line_aside, line_in, nothing_benched};
+ghost use Rattle.chi_observe.specs.Benches.{IsSeen, IsSeenNext, benched, is_line_aside, nothing_benched};
 ghost use Rattle.chi_observe.specs.Watched.{watched};
 
 use crate::bounded::{BoundedStop, BoundedWatch, Room};
-use crate::events::Event;
 use crate::ids::CacheLine;
 use crate::lines::is_aside;
 use crate::seen::event_of;
@@ -49,20 +48,6 @@ pub struct BenchWatch<A: Allocator> {
 }
 
 impl<A: Allocator> Watch<A> {
-    /// The line of a flit that ids and credits allow, or of a load or a store.
-    fn line_in(&self, event: &Event) -> Option<CacheLine>
-        ensures { result ≡ line_in (watched self.now) event.now }
-    {
-        match event {
-            Event::Line(event) => match self.allowed(event) {
-                Ok(change) => Some(change.line),
-                Err(_) => None,
-            },
-            Event::Access(event) => Some(event.line),
-            Event::Granted(_, _) | Event::Returned(_, _) => None,
-        }
-    }
-
     /// Whether the line, if there is one, is set aside.
     fn is_line_aside(&self, line: Option<CacheLine>) -> bool
         ensures { result ≡ is_line_aside (watched self.now) line }
@@ -106,9 +91,8 @@ impl<A: Allocator + Copy> BenchWatch<A> {
         ensures { IsSeenNext (benched self.old) (benched self.new) seen.now result }
     {
         let event = event_of(seen);
-        let line = self.bounded.watch.line_in(&event);
-        match self.bounded.take(&event) {
-            Ok(()) => {
+        match self.bounded.take_at(&event) {
+            Ok(line) => {
                 if self.bounded.watch.is_line_aside(line) {
                     Judged::SetAside
                 } else {

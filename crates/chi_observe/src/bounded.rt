@@ -1,9 +1,10 @@
 //! A watch with a room: it has tables for so much, and refuses a flit that would add more.
 
-ghost use Rattle.std.specs.Prelude.{◌≡◌, IfOk, []};
+ghost use Rattle.std.specs.Prelude.{◌≡◌, IfOk, Ok, []};
+ghost use Rattle.chi_observe.specs.Benches.{line_in};
 ghost use Rattle.chi_observe.specs.Bounded.{IsBoundedTaken, access_fits, account_fits, adds_requester, booking_fits, bounded, change_fits, fits, has_room, ids_behind, is_account_new, is_freed, is_new, is_opened_as, line_fits, nodes_fit, nothing_bounded, number_of, opens_account};
 ghost use Rattle.chi_observe.specs.Nodes.{adds_home};
-ghost use Rattle.chi_observe.specs.Watched.{nothing_watched, watched};
+ghost use Rattle.chi_observe.specs.Watched.{allowed, nothing_watched, watched};
 
 use crate::credits::{AccountTable, Booking, account_numbers};
 use crate::events::{AccessEvent, Event, LineEvent};
@@ -160,7 +161,7 @@ fn lines_with<A: Allocator + Copy>(alloc: A, most: usize) -> Result<LineTable<A>
 }
 
 /// Memory for the marks of so many lines, each of so many requesters.
-fn marks_with<A: Allocator + Copy>(
+pub(crate) fn marks_with<A: Allocator + Copy>(
     alloc: A,
     lines: usize,
     requesters: usize,
@@ -192,6 +193,8 @@ impl<A: Allocator + Copy> Watch<A> {
             lines,
             spare,
             counts: Counts::NOTHING,
+            last: [0; 32],
+            named: IndexMap::new(alloc),
         })
     }
 
@@ -279,13 +282,91 @@ impl<A: Allocator + Copy> Watch<A> {
 }
 
 impl<A: Allocator + Copy> BoundedWatch<A> {
-    /// A watch that has seen no flit, with memory for so much; it takes no other.
+    /// A watch that has seen no flit, with memory for so much; it takes no other. Refused where memory runs out, and of a trace
+    /// that begins in the middle: the ids that it names from before have no bound in a room. So it is of one that is taken at the
+    /// home, whose lines take memory of their own.
     /// Source: `docs/OBSERVER.md`, "A watch with a room".
     pub fn new(alloc: A, options: WatchOptions, room: Room) -> Result<BoundedWatch<A>, AllocError>
         ensures { IfOk result (λ b. bounded b ≡ nothing_bounded room options) }
     {
+        if options.is_cut() || options.is_at_home() {
+            return Err(AllocError);
+        }
         let watch = Watch::with_room(alloc, options, &room)?;
         Ok(BoundedWatch { room, watch })
+    }
+
+    /// Takes a flit of a line that ids and credits allow to do this, where there is room for it.
+    pub(crate) fn take_allowed(
+        &mut self,
+        event: &LineEvent,
+        change: &Change,
+    ) -> Result<(), BoundedStop>
+        requires { allowed (bounded self.old).told event.now ≡ Ok change.now }
+        ensures { IsBoundedTaken (bounded self.old) (bounded self.new)
+            (Event.Line event.now) result }
+    {
+        if !self.watch.change_fits(&self.room, event, change) {
+            return Err(BoundedStop::Full);
+        }
+        match self.watch.take_allowed(event, change) {
+            Ok(()) => Ok(()),
+            Err(WatchStop::Fault(fault)) => Err(BoundedStop::Fault(fault)),
+            Err(WatchStop::NoMemory) => Err(BoundedStop::NoMemory),
+        }
+    }
+
+    /// Takes a flit of a line, and answers which line that is.
+    fn take_line(&mut self, event: &LineEvent) -> Result<Option<CacheLine>, BoundedStop>
+        ensures taken { IsBoundedTaken (bounded self.old) (bounded self.new)
+            (Event.Line event.now) result }
+        ensures line { IfOk result (λ line. line
+            ≡ line_in (bounded self.old).told (Event.Line event.now)) }
+    {
+        match &self.watch.allowed(event) {
+            Ok(change) => match self.take_allowed(event, change) {
+                Ok(()) => Ok(Some(change.line)),
+                Err(stop) => Err(stop),
+            },
+            Err(reason) => match self.watch.take_unopened(event, *reason) {
+                Ok(()) => Ok(None),
+                Err(WatchStop::Fault(fault)) => Err(BoundedStop::Fault(fault)),
+                Err(WatchStop::NoMemory) => Err(BoundedStop::NoMemory),
+            },
+        }
+    }
+
+    /// Takes what isn't a flit of a line.
+    fn take_other(&mut self, event: &Event) -> Result<(), BoundedStop>
+        ensures { IsBoundedTaken (bounded self.old) (bounded self.new) event.now result }
+    {
+        if self.watch.fits(&self.room, event) {
+            match self.watch.take(event) {
+                Ok(()) => Ok(()),
+                Err(WatchStop::Fault(fault)) => Err(BoundedStop::Fault(fault)),
+                Err(WatchStop::NoMemory) => Err(BoundedStop::NoMemory),
+            }
+        } else {
+            Err(BoundedStop::Full)
+        }
+    }
+
+    /// Takes what the next line of a trace is, as `take` does, and answers the line of memory that it is of.
+    pub(crate) fn take_at(&mut self, event: &Event) -> Result<Option<CacheLine>, BoundedStop>
+        ensures taken { IsBoundedTaken (bounded self.old) (bounded self.new) event.now result }
+        ensures line { IfOk result (λ line. line
+            ≡ line_in (bounded self.old).told event.now) }
+    {
+        let line = match event {
+            Event::Line(event) => return self.take_line(event),
+            Event::Access(event) => Some(event.line),
+            Event::Granted(_, _) => None,
+            Event::Returned(_, _) => None,
+        };
+        match self.take_other(event) {
+            Ok(()) => Ok(line),
+            Err(stop) => Err(stop),
+        }
     }
 
     /// Takes what the next line of a trace is, where there is room for what it adds. `Full` exactly where a table is full
@@ -294,13 +375,9 @@ impl<A: Allocator + Copy> BoundedWatch<A> {
     pub fn take(&mut self, event: &Event) -> Result<(), BoundedStop>
         ensures { IsBoundedTaken (bounded self.old) (bounded self.new) event.now result }
     {
-        if !self.watch.fits(&self.room, event) {
-            return Err(BoundedStop::Full);
-        }
-        match self.watch.take(event) {
-            Ok(()) => Ok(()),
-            Err(WatchStop::Fault(fault)) => Err(BoundedStop::Fault(fault)),
-            Err(WatchStop::NoMemory) => Err(BoundedStop::NoMemory),
+        match self.take_at(event) {
+            Ok(_) => Ok(()),
+            Err(stop) => Err(stop),
         }
     }
 }

@@ -7,14 +7,15 @@ ghost use Rattle.chi_observe.specs.Seen.{event_of};
 use crate::benches::{BenchWatch, FirstStop};
 use crate::events::Event;
 use crate::ids::{CacheLine, IdKey, Sides, find_id};
+use crate::judges::Judge;
 use crate::lines::LineSeen;
 use crate::marks::teller_of;
 use crate::reasons::{IdReason, LineReason};
 use crate::seen::event_of;
-use crate::texts::{is_in_the_way, key_of, words_of};
+use crate::texts::{key_of, words_beside};
 use crate::watch::{Watch, WatchFault};
 use chi_flit::Data;
-use chi_observer::{AGENTS, Flit, Observer, Reason, Told};
+use chi_observer::{AGENTS, Flit, Reason, Told};
 use chi_trace::{AnySeen, NodeId};
 use std::alloc::Allocator;
 
@@ -50,7 +51,7 @@ pub struct FaultFacts {
 #[derive(Drop)]
 struct Untaken<'a, A: Allocator> {
     flit: Flit,
-    observer: &'a Observer,
+    judge: &'a Judge<A>,
     /// None of a line that no flit has touched.
     seen: Option<&'a LineSeen<A>>,
     requesters: &'a [NodeId],
@@ -93,7 +94,7 @@ fn named_by(reason: IdReason, event: &Event) -> Option<IdKey> {
 impl<A: Allocator> Untaken<'_, A> {
     /// What was told of an agent's copy, and by which flit.
     fn copy(&self, agent: usize) -> Ground {
-        let told = match self.observer.agents.get(agent) {
+        let told = match self.judge.observer().agents.get(agent) {
             Some(seen) => Some(seen.told),
             None => None,
         };
@@ -115,7 +116,7 @@ impl<A: Allocator> Untaken<'_, A> {
     fn in_the_way(&self) -> Ground {
         for other in 0..AGENTS {
             if let Some(node) = self.requesters.get(other) {
-                if is_in_the_way(self.observer, self.flit, other) {
+                if self.judge.is_in_the_way(self.flit, other) {
                     return Ground {
                         other: Some(*node),
                         ..self.copy(other)
@@ -132,10 +133,10 @@ impl<A: Allocator> Untaken<'_, A> {
             Some(seen) => seen.marks.words,
             None => 0,
         };
-        match self.observer.home {
+        match self.judge.observer().home {
             Some(known) => Ground {
                 since,
-                words: Some((known, words_of(self.flit))),
+                words: Some((known, words_beside(self.flit, known))),
                 ..self.copy(usize::from(teller_of(self.flit).0))
             },
             None => Ground::NONE,
@@ -182,21 +183,26 @@ impl<A: Allocator> Watch<A> {
             ..Ground::NONE
         }
     }
+}
 
+impl<A: Allocator + Copy> Watch<A> {
     /// What a rule's reason rests on, of a flit of this line.
     fn rule_ground(&self, event: &Event, line: CacheLine, reason: Reason) -> Ground {
         let Some((_, flit)) = self.judged_in(event) else {
             return Ground::NONE;
         };
-        let untouched = Observer::new();
+        let (log, stores) = (self.options.log, self.options.stores);
+        let Ok(untouched) = Judge::new(*self.lines.allocator(), log, stores, 0) else {
+            return Ground::NONE;
+        };
         let seen = self.lines.get(&line.0);
-        let observer = match seen {
-            Some(seen) => &seen.observer,
+        let judge = match seen {
+            Some(seen) => &seen.judge,
             None => &untouched,
         };
         let untaken = Untaken {
             flit,
-            observer,
+            judge,
             seen,
             requesters: &self.requesters,
         };
@@ -235,7 +241,7 @@ impl<A: Allocator> Watch<A> {
     }
 }
 
-impl<A: Allocator> BenchWatch<A> {
+impl<A: Allocator + Copy> BenchWatch<A> {
     /// What is told of the first flit that isn't taken, if there is one. What its reason rests on no clause says: it is
     /// tested.
     /// Source: `docs/OBSERVER.md`, "A watch with a room".

@@ -2,7 +2,7 @@
 
 ghost use Rattle.std.specs.Prelude.{◌≡◌};
 ghost use Rattle.std.specs.List.{count_by};
-ghost use Rattle.chi_observe.specs.Grants.{attempts, early_of, granted, is_attempt, returned};
+ghost use Rattle.chi_observe.specs.Grants.{attempts, early_of, granted, is_attempt, lacks_credit, returned};
 ghost use Rattle.chi_observe.specs.Tables.{table_of};
 
 use crate::credits::{Booking, CreditEvent};
@@ -47,13 +47,20 @@ impl<A: Allocator> Tables<'_, A> {
         }
     }
 
+    /// Whether there is no credit for a booking; of a trace that is cut out of a longer one none is missed.
+    pub(crate) fn lacks_credit(&self, booking: &Booking) -> bool
+        ensures { result ≡ lacks_credit self.now.options booking.now }
+    {
+        !self.options.is_cut() && booking.account.unused() == 0
+    }
+
     /// A granted credit: of a retried request that waits for a grant, or with early grants of a first attempt.
     pub(crate) fn grant(&self, sides: Sides, pcrd: PcrdType) -> Result<Booking, IdReason>
         ensures { result ≡ granted self.now.options (table_of self.now) sides pcrd }
     {
         let early = self.early(sides) as u64;
         let booking = self.booking(sides, pcrd, CreditEvent::Granted);
-        if booking.account.may_grant(early) {
+        if self.options.is_cut() || booking.account.may_grant(early) {
             Ok(booking)
         } else {
             Err(IdReason::NothingRetried(sides, pcrd))
@@ -62,10 +69,10 @@ impl<A: Allocator> Tables<'_, A> {
 
     /// A returned credit.
     pub(crate) fn give_back(&self, sides: Sides, pcrd: PcrdType) -> Result<Booking, IdReason>
-        ensures { result ≡ returned (table_of self.now) sides pcrd }
+        ensures { result ≡ returned self.now.options (table_of self.now) sides pcrd }
     {
         let booking = self.booking(sides, pcrd, CreditEvent::Returned);
-        if booking.account.unused() == 0 {
+        if self.lacks_credit(&booking) {
             Err(IdReason::NoCredit(sides, pcrd))
         } else {
             Ok(booking)

@@ -1,14 +1,16 @@
 //! The lines of memory that flits have touched.
 
-ghost use Rattle.std.specs.Prelude.{◌≡◌, None, nat_eq};
+ghost use Rattle.std.specs.Prelude.{◌≡◌, IfOk, None, OnOk, nat_eq};
 ghost use Rattle.std.specs.Map.{lookup};
 ghost use Rattle.chi_observe.specs.declared.lines.LineStop.TheVariants as stops;
-ghost use Rattle.chi_observe.specs.Lines.{IsEndTold, IsFlitTold, IsLineTold, IsTold, begun_next, home_of, is_aside, is_put_aside, line_state, lines_in, opened_line, put_aside};
+ghost use Rattle.chi_observe.specs.Judges.{before_of};
+ghost use Rattle.chi_observe.specs.Lines.{IsEndTold, IsFlitTold, IsLineTold, IsTold, begun_next, marked_next, home_of, is_aside, is_put_aside, line_state, lines_in, opened_line, put_aside};
 
 use crate::ids::CacheLine;
-use crate::marks::Marks;
+use crate::judges::{Before, Judge};
+use crate::marks::{Marks, teller_of};
 use crate::reasons::LineReason;
-use chi_observer::{Flit, Observer};
+use chi_observer::{Aside, Flit, Untaken};
 use chi_trace::NodeId;
 use indexmap::IndexMap;
 use std::alloc::{AllocError, Allocator};
@@ -22,9 +24,11 @@ pub(crate) struct LineSeen<A: Allocator> {
     pub home: NodeId,
     /// It isn't judged any more.
     pub aside: bool,
+    /// Why, where what is on its way left it open.
+    pub why: Option<Aside>,
     /// Data of it lack words: its next flit is their last beat, or it isn't judged any more.
     pub held: bool,
-    pub observer: Observer,
+    pub judge: Judge<A>,
     /// By which lines of the trace.
     pub marks: Marks<A>,
 }
@@ -38,6 +42,15 @@ pub(crate) enum LineNews {
     Begun,
     /// The last one, with all words; none where the data aren't judged.
     Ended(Option<Flit>),
+}
+
+/// What came of telling a line.
+#[derive(Clone, Copy)]
+pub(crate) struct LineTold {
+    /// It was the line's first flit.
+    pub fresh: bool,
+    /// The line was judged so far, and isn't any more.
+    pub aside: bool,
 }
 
 /// The lines that flits have touched, each under its number.
@@ -63,20 +76,30 @@ impl From<AllocError> for LineStop {
     }
 }
 
-impl<A: Allocator> LineSeen<A> {
+impl<A: Allocator + Copy> LineSeen<A> {
     /// A line that no flit has touched before the one with this number.
-    fn new(memory: Vec<usize, A>, home: NodeId, number: usize) -> LineSeen<A>
-        ensures { line_state result ≡ opened_line number home }
+    fn new(
+        memory: Vec<usize, A>,
+        before: &Before,
+        home: NodeId,
+        number: usize,
+    ) -> Result<LineSeen<A>, AllocError>
+        ensures { IfOk result
+            (λ seen. line_state seen ≡ opened_line (before_of before.now) number home) }
     {
-        LineSeen {
+        let judge = Judge::new(*memory.allocator(), before.log, before.stores, number)?;
+        Ok(LineSeen {
             home,
             aside: false,
+            why: None,
             held: false,
-            observer: Observer::new(),
+            judge,
             marks: Marks::new(memory, number),
-        }
+        })
     }
+}
 
+impl<A: Allocator> LineSeen<A> {
     /// It isn't judged any more.
     fn set_aside(&mut self)
         ensures { line_state self.new ≡ put_aside (line_state self.old) }
@@ -84,10 +107,26 @@ impl<A: Allocator> LineSeen<A> {
         self.aside = true;
     }
 
-    /// Takes a flit of this home, and with this number; one that isn't judged sets the line aside. Where it isn't taken
-    /// nothing changes.
-    fn take_flit(&mut self, home: NodeId, flit: Option<Flit>, number: usize) -> Result<(), LineStop>
-        ensures { IsFlitTold (line_state self.old) (line_state self.new) number home flit result }
+    /// A flit that was taken is marked by its number, but a request that isn't told yet.
+    fn mark(&mut self, flit: Flit, number: usize) -> Result<(), AllocError>
+        ensures { OnOk result (line_state self.new ≡ marked_next (line_state self.old) number flit) }
+    {
+        if self.judge.holds(teller_of(flit)) {
+            return Ok(());
+        }
+        self.marks.mark(flit, &self.judge.observer().home, number)
+    }
+
+    /// Takes a flit of this home, and with this number; one that isn't judged, or leaves open what it tells, sets the line
+    /// aside. Where it isn't taken nothing changes.
+    fn take_flit(
+        &mut self,
+        before: &Before,
+        home: NodeId,
+        flit: Option<Flit>,
+        number: usize,
+    ) -> Result<(), LineStop>
+        ensures { IsFlitTold (before_of before.now) (line_state self.old) (line_state self.new) number home flit result }
     {
         let Some(flit) = flit else {
             self.set_aside();
@@ -99,9 +138,14 @@ impl<A: Allocator> LineSeen<A> {
         if self.home.0 != home.0 {
             return Err(LineStop::Refused(LineReason::OtherHome(self.home)));
         }
-        match self.observer.take(flit) {
-            Ok(()) => Ok(self.marks.mark(flit, &self.observer.home, number)?),
-            Err(reason) => Err(LineStop::Refused(LineReason::Rule(reason))),
+        match self.judge.take(flit, before, number) {
+            Ok(()) => Ok(self.mark(flit, number)?),
+            Err(Untaken::Fault(reason)) => Err(LineStop::Refused(LineReason::Rule(reason))),
+            Err(Untaken::SetAside(why)) => {
+                self.why = Some(why);
+                self.set_aside();
+                Ok(())
+            }
         }
     }
 
@@ -116,18 +160,30 @@ impl<A: Allocator> LineSeen<A> {
     }
 
     /// Takes the last beat of data.
-    fn end(&mut self, home: NodeId, flit: Option<Flit>, number: usize) -> Result<(), LineStop>
-        ensures { IsEndTold (line_state self.old) (line_state self.new) number home flit result }
+    fn end(
+        &mut self,
+        before: &Before,
+        home: NodeId,
+        flit: Option<Flit>,
+        number: usize,
+    ) -> Result<(), LineStop>
+        ensures { IsEndTold (before_of before.now) (line_state self.old) (line_state self.new) number home flit result }
     {
-        self.take_flit(home, flit, number)?;
+        self.take_flit(before, home, flit, number)?;
         self.held = false;
         Ok(())
     }
 
     /// Takes what a line is told of, by this home and with this number. Where it isn't taken nothing changes.
     #[tactic(auto, unfolding(crate::specs::Lines::takes_line, crate::specs::Lines::line_next, crate::specs::Lines::is_line_reason))]
-    fn take(&mut self, home: NodeId, news: LineNews, number: usize) -> Result<(), LineStop>
-        ensures { IsLineTold (line_state self.old) (line_state self.new) number home news result }
+    fn take(
+        &mut self,
+        before: &Before,
+        home: NodeId,
+        news: LineNews,
+        number: usize,
+    ) -> Result<(), LineStop>
+        ensures { IsLineTold (before_of before.now) (line_state self.old) (line_state self.new) number home news result }
     {
         match news {
             LineNews::Flit(flit) => {
@@ -135,14 +191,32 @@ impl<A: Allocator> LineSeen<A> {
                     self.set_aside();
                     return Ok(());
                 }
-                self.take_flit(home, flit, number)
+                self.take_flit(before, home, flit, number)
             }
             LineNews::Begun => {
                 self.hold();
                 Ok(())
             }
-            LineNews::Ended(flit) => self.end(home, flit, number),
+            LineNews::Ended(flit) => self.end(before, home, flit, number),
         }
+    }
+
+    /// The same; it answers whether the line was judged so far, and isn't any more.
+    fn tell(
+        &mut self,
+        before: &Before,
+        home: NodeId,
+        news: LineNews,
+        number: usize,
+    ) -> Result<bool, LineStop>
+        ensures told { IsLineTold (before_of before.now) (line_state self.old) (line_state self.new)
+            number home news result }
+        ensures aside { IfOk result
+            (λ aside. aside ≡ is_put_aside (line_state self.old) (line_state self.new)) }
+    {
+        let was = self.aside;
+        self.take(before, home, news, number)?;
+        Ok(self.aside && !was)
     }
 }
 
@@ -166,43 +240,27 @@ pub(crate) fn home_of<A: Allocator>(lines: &LineTable<A>, line: CacheLine) -> Op
     }
 }
 
-/// Whether the line isn't judged any more, once it is told of this.
-pub(crate) fn is_put_aside<A: Allocator>(
-    lines: &LineTable<A>,
-    line: CacheLine,
-    news: LineNews,
-) -> bool
-    ensures { result ≡ is_put_aside (lines_in lines.now.entries line.0) news }
-{
-    let held = match lines.get(&line.0) {
-        Some(seen) => seen.held,
-        None => false,
-    };
-    match news {
-        LineNews::Flit(flit) => held || flit.is_none(),
-        LineNews::Begun => held,
-        LineNews::Ended(flit) => flit.is_none(),
-    }
-}
-
-/// Tells the line of this by this home, and with this number, and answers whether it is the line's first flit. Where the
-/// line doesn't take it nothing changes.
+/// Tells the line of this by this home, and with this number. Where the line doesn't take it nothing changes.
 pub(crate) fn tell<A: Allocator + Copy>(
     lines: &mut LineTable<A>,
     spare: &mut SpareMarks<A>,
+    before: &Before,
     line: CacheLine,
     home: NodeId,
     news: LineNews,
     number: usize,
-) -> Result<bool, LineStop>
-    ensures { IsTold (lines_in lines.old.entries) (lines_in lines.new.entries) number line home news result }
+) -> Result<LineTold, LineStop>
+    ensures { IsTold (before_of before.now) (lines_in lines.old.entries) (lines_in lines.new.entries) number line home news result }
 {
     match lines.get_mut(&line.0) {
-        Some(seen) => match seen.take(home, news, number) {
-            Ok(()) => Ok(false),
+        Some(seen) => match seen.tell(before, home, news, number) {
+            Ok(aside) => Ok(LineTold {
+                fresh: false,
+                aside,
+            }),
             Err(stop) => Err(stop),
         },
-        None => tell_new(lines, spare, line, home, news, number),
+        None => tell_new(lines, spare, before, line, home, news, number),
     }
 }
 
@@ -210,21 +268,23 @@ pub(crate) fn tell<A: Allocator + Copy>(
 fn tell_new<A: Allocator + Copy>(
     lines: &mut LineTable<A>,
     spare: &mut SpareMarks<A>,
+    before: &Before,
     line: CacheLine,
     home: NodeId,
     news: LineNews,
     number: usize,
-) -> Result<bool, LineStop>
+) -> Result<LineTold, LineStop>
     requires { lookup (nat_eq line.0) lines.old.entries ≡ None }
-    ensures { IsTold (lines_in lines.old.entries) (lines_in lines.new.entries) number line home news result }
+    ensures { IsTold (before_of before.now) (lines_in lines.old.entries) (lines_in lines.new.entries) number line home news result }
 {
     let memory = spare.pop().unwrap_or(Vec::new(*lines.allocator()));
-    let mut seen = LineSeen::new(memory, home, number);
-    if let Err(stop) = seen.take(home, news, number) {
-        return Err(stop);
-    }
+    let mut seen = LineSeen::new(memory, before, home, number)?;
+    let aside = match seen.tell(before, home, news, number) {
+        Ok(aside) => aside,
+        Err(stop) => return Err(stop),
+    };
     match lines.insert(line.0, seen) {
-        Ok(_) => Ok(true),
+        Ok(_) => Ok(LineTold { fresh: true, aside }),
         Err(_) => Err(LineStop::NoMemory),
     }
 }

@@ -41,8 +41,8 @@ fn tells_copy(flit: Flit) -> bool
             | Act::SnpResp(_)
             | Act::CopyBackWrData(_)
             | Act::NonCopyBackWrData
-            | Act::Load
-            | Act::Store => true,
+            | Act::Load(_)
+            | Act::Store(_) => true,
             Act::CompAck => false,
         },
         Flit::Down(given) => match given.grant {
@@ -63,7 +63,7 @@ fn shown_by(flit: Flit) -> Option<Data>
             Act::CopyBackWrData(State::I) => None,
             Act::CopyBackWrData(_) => Some(sent.shown),
             Act::NonCopyBackWrData => Some(sent.shown),
-            Act::Request(_) | Act::Resend(_) | Act::CompAck | Act::Load | Act::Store => None,
+            Act::Request(_) | Act::Resend(_) | Act::CompAck | Act::Load(_) | Act::Store(_) => None,
         },
         Flit::Down(given) => match given.grant {
             Grant::CompData(_) => Some(given.shown),

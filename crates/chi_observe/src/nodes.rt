@@ -17,7 +17,7 @@ fn is_node(node: NodeId, other: &NodeId) -> bool
 }
 
 /// The place of a node.
-fn place_of(nodes: &[NodeId], node: NodeId) -> Option<usize>
+pub(crate) fn place_of(nodes: &[NodeId], node: NodeId) -> Option<usize>
     ensures { result ≡ position (is_node node) nodes.now }
 {
     nodes.iter().position(|other| is_node(node, other))

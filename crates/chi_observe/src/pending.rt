@@ -22,10 +22,10 @@ use std::fmt::Write;
 fn is_cancelled_at<A: Allocator>(seen: &LineSeen<A>, agent: Agent) -> bool
     ensures { result ≡ is_cancelled_at (line_state seen.now) agent }
 {
-    if seen.aside {
+    if seen.aside || seen.judge.holds(agent) {
         return false;
     }
-    match seen.observer.agents.get(usize::from(agent.0)) {
+    match seen.judge.observer().agents.get(usize::from(agent.0)) {
         Some(agent) => agent.cancelled,
         None => false,
     }
@@ -83,7 +83,7 @@ impl<A: Allocator> Watch<A> {
     pub fn is_open(&self) -> bool
         ensures { result ≡ is_open (watched self.now) }
     {
-        self.has_open_id() || self.has_open_account()
+        self.has_open_id() || (!self.options.is_cut() && self.has_open_account())
     }
 }
 
@@ -187,7 +187,7 @@ impl<A: Allocator> Watch<A> {
             }
         }
         for account in self.accounts.values().as_slice() {
-            if is_account_open(account) {
+            if !self.options.is_cut() && is_account_open(account) {
                 let account = AccountText(*account);
                 writeln!(text, "open: {account}")?;
             }

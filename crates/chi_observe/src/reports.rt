@@ -5,11 +5,13 @@ ghost use Rattle.chi_observe.specs.Pending.{is_open};
 ghost use Rattle.chi_observe.specs.Reports.{BeginsWith, IsOutcomeOf, IsReportText, accepted_line, ended_outcome, is_nothing_seen, numbered};
 ghost use Rattle.chi_observe.specs.Watched.{watched};
 
+use crate::ids::CacheLine;
 use crate::malformed::malformed_text;
 use crate::names::{LineName, NodeName, SeenName, joined, requester_of};
 use crate::seen::event_of;
 use crate::stream::{Notes, TextStop};
-use crate::watch::{Counts, Watch, WatchFault};
+use crate::texts::AsideText;
+use crate::watch::{Aside, Counts, Watch, WatchFault};
 use chi_trace::{AnySeen, TraceFault};
 use std::alloc::{AllocError, Allocator};
 use std::fmt::Write;
@@ -96,9 +98,71 @@ impl<A: Allocator + Copy> Watch<A> {
     {
         let front = accepted_line(alloc, counts)?;
         let mut rest = String::new(alloc);
-        write_counts(&mut rest, counts)?;
+        self.write_start(&mut rest)?;
+        self.write_counts(&mut rest, counts)?;
         self.write_open(&mut rest)?;
         joined(front, &rest)
+    }
+
+    /// Puts on how many lines a copy isn't known behind the text, of a trace that is cut out of a longer one.
+    fn write_start(&self, text: &mut String<A>) -> Result<(), AllocError> {
+        if !self.options.is_cut() {
+            return Ok(());
+        }
+        let (agents, mut count) = (self.requesters.len(), 0u64);
+        for seen in self.lines.values().as_slice() {
+            if !seen.aside && seen.judge.is_unknown(agents) {
+                count = count.saturating_add(1);
+            }
+        }
+        writeln!(
+            text,
+            "begun in the middle: on {count} lines a copy isn't known"
+        )
+    }
+
+    /// Puts lines for loads and stores, and for lines that were set aside, behind the text.
+    fn write_counts(&self, text: &mut String<A>, counts: Counts) -> Result<(), AllocError> {
+        let accesses = counts.accesses;
+        if accesses > 0 && self.options.is_at_home() {
+            writeln!(
+                text,
+                "not judged: {accesses} loads and stores, which a home doesn't see"
+            )?;
+        } else if accesses > 0 {
+            writeln!(text, "accepted {accesses} loads and stores")?;
+        }
+        match counts.first_aside {
+            Some(first) => self.write_aside(text, counts.aside, first),
+            None => Ok(()),
+        }
+    }
+
+    /// Puts a line for so many lines that were set aside behind the text, of which this is the first.
+    fn write_aside(
+        &self,
+        text: &mut String<A>,
+        aside: u64,
+        first: Aside,
+    ) -> Result<(), AllocError> {
+        let (line, number) = (LineName(first.line), first.number);
+        write!(
+            text,
+            "set aside: {aside} lines, the first at {line} by line {number}"
+        )?;
+        if let Some(why) = self.why_aside(first.line) {
+            let why = AsideText(why);
+            write!(text, ": {why}")?;
+        }
+        writeln!(text, "")
+    }
+
+    /// Why a line was set aside, where what is on its way left it open.
+    fn why_aside(&self, line: CacheLine) -> Option<chi_observer::Aside> {
+        match self.lines.get(&line.0) {
+            Some(seen) => seen.why,
+            None => None,
+        }
     }
 
     /// What is told of a flit that isn't taken.
@@ -192,22 +256,6 @@ fn write_recent<A: Allocator>(text: &mut String<A>, flits: &[AnySeen]) -> Result
         let (node, side) = requester_of(seen);
         let (name, node, number) = (SeenName(seen), NodeName(node), seen.line);
         writeln!(text, "before: line {number}: {name} {side} node {node}")?;
-    }
-    Ok(())
-}
-
-/// Puts lines for loads and stores, and for lines that were set aside, behind the text.
-fn write_counts<A: Allocator>(text: &mut String<A>, counts: Counts) -> Result<(), AllocError> {
-    let (accesses, aside) = (counts.accesses, counts.aside);
-    if accesses > 0 {
-        writeln!(text, "accepted {accesses} loads and stores")?;
-    }
-    if let Some(first) = counts.first_aside {
-        let (line, number) = (LineName(first.line), first.number);
-        writeln!(
-            text,
-            "set aside: {aside} lines, the first at {line} by line {number}"
-        )?;
     }
     Ok(())
 }

@@ -1,13 +1,13 @@
 //! What each line of a trace is to a watch: the one place where a trace's words become an observer's.
 
 ghost use Rattle.std.specs.Prelude.{◌≡◌, length};
-ghost use Rattle.chi_observe.specs.Seen.{access_event, answer_data_told, answer_told, completion_told, data_given, data_sent, down, event_of, kind_named, line_named, line_of, named_buffer, other_kind_named, other_snoop_named, profile_event, read_event, read_told, request_event, request_step, request_told, snoop_event, snoop_named, up, whole_written_told, written_told};
+ghost use Rattle.chi_observe.specs.Seen.{access_event, answer_data_told, answer_told, completion_told, data_given, data_sent, down, event_of, kind_named, line_named, line_of, named_buffer, other_kind_named, other_snoop_named, profile_event, read_event, read_told, request_event, request_step, request_told, snoop_event, snoop_named, up, whole_written_told, word_of, written_told};
 
 use crate::events::{AccessEvent, Event, LineEvent, Tells};
 use crate::ids::{CacheLine, Sides};
 use crate::steps::IdStep;
-use chi_flit::{NO_DATA, State};
-use chi_observer::{Act, Answer, Grant, Kind, Snoop};
+use chi_flit::{NO_DATA, State, WordNo};
+use chi_observer::{Act, Answer, Grant, Kind, Snoop, Word};
 use chi_trace::{
     Address, AnyFlit, AnySeen, Beat, DbId, Flit, NodeId, OtherKind, OtherSnoop, PcrdType,
     RequestFields, Resp, SnoopFields, Transaction, TxnId,
@@ -268,6 +268,16 @@ fn down_in(seen: &AnySeen, transaction: &Transaction, step: IdStep, tells: Tells
     down(seen, transaction.target, transaction.address, step, tells)
 }
 
+/// The word at an address, with this value.
+fn word_of(address: Address, value: u64) -> Word
+    ensures { result ≡ word_of address value }
+{
+    Word {
+        place: WordNo((address.0 % 64 / 8) as u8),
+        value,
+    }
+}
+
 /// What a load or a store is to a watch.
 fn access_event(seen: &AnySeen, address: Address, act: Act) -> Event
     ensures { result ≡ access_event seen.now address act }
@@ -421,8 +431,12 @@ fn profile_event(seen: &AnySeen, flit: &Flit) -> Event
             IdStep::WriteData(named_buffer(transaction), beat.there),
             written_told(*resp, beat),
         ),
-        Flit::Load { address, .. } => access_event(seen, *address, Act::Load),
-        Flit::Store { address, .. } => access_event(seen, *address, Act::Store),
+        Flit::Load { address, value } => {
+            access_event(seen, *address, Act::Load(word_of(*address, *value)))
+        }
+        Flit::Store { address, value } => {
+            access_event(seen, *address, Act::Store(word_of(*address, *value)))
+        }
     }
 }
 

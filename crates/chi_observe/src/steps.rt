@@ -1,15 +1,17 @@
 //! What each flit does to ids and credits.
 
 ghost use Rattle.std.specs.Prelude.{◌≡◌};
-ghost use Rattle.chi_observe.specs.Steps.{acknowledged, attempt_of, attempted_kind, change_of, completed, judged_attempt, judged_resent, judged_snoop, read_data, resent_of, retried, snooped, waiting_of, wanted_type};
+ghost use Rattle.chi_observe.specs.Judges.{is_at_home, is_cut};
+ghost use Rattle.chi_observe.specs.Steps.{acknowledged, attempt_of, attempted_kind, change_of, completed, judged_attempt, judged_resent, judged_snoop, read_data, resent_of, retried, snooped, waited_for, waiting_of, wanted_type};
 ghost use Rattle.chi_observe.specs.Tables.{new_buffer, table_of};
 
 use crate::credits::{CreditEvent, CreditTypes};
 use crate::events::Tells;
 use crate::ids::{CacheLine, IdKey, OpenId, Purpose, Sides, find_id, opened_id};
+use crate::judges::Log;
 use crate::reasons::IdReason;
 use crate::tables::{Change, Part, Tables, freed_key, plain_change, right_type};
-use chi_observer::{Kind, Snoop};
+use chi_observer::{Kind, Snoop, Stores};
 use chi_trace::{DbId, PcrdType, TxnId};
 use std::alloc::Allocator;
 
@@ -20,6 +22,26 @@ pub struct WatchOptions {
     pub types: CreditTypes,
     /// The monitors stand at the requesters, where a grant may come before its RetryAck.
     pub early_grants: bool,
+    /// Whether each store of a processor is in the trace.
+    pub stores: Stores,
+    /// How it was taken.
+    pub log: Log,
+}
+
+impl WatchOptions {
+    /// Whether the trace is cut out of a longer one.
+    pub(crate) fn is_cut(self) -> bool
+        ensures { result ≡ is_cut self }
+    {
+        matches!(self.log, Log::Tail)
+    }
+
+    /// Whether it is taken at the home.
+    pub(crate) fn is_at_home(self) -> bool
+        ensures { result ≡ is_at_home self }
+    {
+        matches!(self.log, Log::Home)
+    }
 }
 
 /// What a flit of a line is to ids and credits.
@@ -130,7 +152,7 @@ impl<A: Allocator> Tables<'_, A> {
         line: CacheLine,
         pcrd: PcrdType,
     ) -> Result<Change, IdReason>
-        ensures { result ≡ resent_of (table_of self.now) sides txn kind line pcrd }
+        ensures { result ≡ resent_of self.now.options (table_of self.now) sides txn kind line pcrd }
     {
         if self.is_aside(line) {
             self.unknown_request(sides, txn, line, Some(pcrd))
@@ -149,14 +171,14 @@ impl<A: Allocator> Tables<'_, A> {
         line: CacheLine,
         pcrd: PcrdType,
     ) -> Result<Change, IdReason>
-        ensures { result ≡ judged_resent (table_of self.now) sides txn kind line pcrd }
+        ensures { result ≡ judged_resent self.now.options (table_of self.now) sides txn kind line pcrd }
     {
         let key = self.new_id(IdKey::Request(sides, txn))?;
         let old = IdKey::Retried(sides, line);
-        let waiting = find_id(self.ids, old).ok_or(IdReason::NotOpen(old))?;
-        let pcrd = right_type(pcrd, waiting.waits_for)?;
+        let wanted = self.waited_for(old)?;
+        let pcrd = right_type(pcrd, wanted)?;
         let booking = self.booking(sides, pcrd, CreditEvent::Resent);
-        if booking.account.unused() == 0 {
+        if self.lacks_credit(&booking) {
             return Err(IdReason::NoCredit(sides, pcrd));
         }
         let purpose = Purpose::Request { kind, first: false };
@@ -166,6 +188,20 @@ impl<A: Allocator> Tables<'_, A> {
             books: Some(booking),
             ..plain_change(line)
         })
+    }
+
+    /// The type of credit that a request which is sent again waits for; any where it was retried before the trace.
+    fn waited_for(&self, key: IdKey) -> Result<Option<PcrdType>, IdReason>
+        ensures { result ≡ waited_for self.now.options (table_of self.now) key }
+    {
+        match find_id(self.ids, key) {
+            Some(waiting) => Ok(waiting.waits_for),
+            None => if self.options.is_cut() {
+                Ok(None)
+            } else {
+                Err(IdReason::NotOpen(key))
+            },
+        }
     }
 
     /// A snoop.

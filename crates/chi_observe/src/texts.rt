@@ -2,6 +2,7 @@
 
 use crate::events::{AccessEvent, Event, LineEvent, Tells, flit_by};
 use crate::ids::{CacheLine, IdKey, OpenId, find_id};
+use crate::judges::{Before, Judge};
 use crate::lines::{LineSeen, home_of};
 use crate::marks::teller_of;
 use crate::names::{GIVEN, KeyName, LineName, NodeName, SENT, ToldName};
@@ -13,7 +14,7 @@ use crate::tables::Part;
 use crate::watch::{Watch, WatchFault};
 use chi_flit::{Agent, Data, NO_DATA};
 use chi_observer::{
-    AGENTS, AgentSeen, CacheFlit, Due, Flit, HomeFlit, Kind, Observer, Reason, Told,
+    AGENTS, Act, Aside, CacheFlit, Certainty, Due, Flit, HomeFlit, Kind, Observer, Reason, Told,
 };
 use chi_trace::NodeId;
 use std::alloc::{AllocError, Allocator};
@@ -69,17 +70,50 @@ impl fmt::Display for IdText {
     }
 }
 
+/// Why a line is set aside whose flits the home receives.
+#[derive(Clone, Copy)]
+pub(crate) struct AsideText(pub Aside);
+
+impl fmt::Display for AsideText {
+    fn fmt<W: fmt::Write>(&self, f: &mut fmt::Formatter<W>) -> fmt::Result {
+        f.write_str(aside_text(self.0))
+    }
+}
+
+/// The same as a text.
+fn aside_text(why: Aside) -> &'static str {
+    match why {
+        Aside::TwoRequests => "it isn't known what its node's last request was sent from",
+        Aside::Retried => "a request of its node that was retried may have been cancelled before",
+        Aside::EarlierData => "a request is completed before write data that were sent first",
+        Aside::HeldRequest(_) => "what a request tells that is held may make it legal",
+        Aside::Thrown => "a copy was clean that seemed to be thrown away dirty",
+        Aside::Uncounted => "more is on its way than is counted",
+    }
+}
+
 /// What was told of a requester's copy last, and by which line of the trace; 0 where none has.
 #[derive(Clone, Copy)]
 struct CopyText {
     node: NodeId,
     told: Told,
+    certainty: Certainty,
     number: usize,
 }
 
 impl fmt::Display for CopyText {
     fn fmt<W: fmt::Write>(&self, f: &mut fmt::Formatter<W>) -> fmt::Result {
         let (node, told, number) = (NodeName(self.node), ToldName(self.told), self.number);
+        match self.certainty {
+            Certainty::Unknown => return write!(f, "the copy of node {node} isn't known"),
+            Certainty::Unique => {
+                return write!(
+                    f,
+                    "the copy of node {node} was last told to be unique, by line {number}"
+                );
+            }
+            Certainty::Told => {}
+        }
         if number == 0 {
             return write!(f, "no flit has told of a copy of node {node}");
         }
@@ -98,7 +132,8 @@ struct Known<'a, A: Allocator> {
     node: NodeId,
     requesters: &'a [NodeId],
     ids: &'a [OpenId],
-    observer: &'a Observer,
+    judge: &'a Judge<A>,
+    before: &'a Before<'a>,
     /// By which lines of the trace; none of a line that no flit has touched.
     seen: Option<&'a LineSeen<A>>,
 }
@@ -124,37 +159,6 @@ fn reads_once(observer: &Observer, agent: Agent) -> bool {
     }
 }
 
-/// An agent of whom nothing was told.
-const NOBODY: AgentSeen = AgentSeen {
-    told: Told::I,
-    cancelled: false,
-    due: Due::Nothing,
-    snooped: None,
-};
-
-/// An observer that knows of these two agents alone what the given one does.
-fn pair_of(observer: &Observer, one: usize, other: usize) -> Observer {
-    let mut agents = [NOBODY; 32];
-    agents[one % AGENTS] = observer.agents[one % AGENTS];
-    agents[other % AGENTS] = observer.agents[other % AGENTS];
-    Observer {
-        agents,
-        home: observer.home,
-        current: observer.current,
-        duty: observer.duty,
-        thrown: observer.thrown,
-        waits: observer.waits,
-        shown: observer.shown,
-    }
-}
-
-/// Whether the other agent's copy alone doesn't let the flit be taken.
-pub(crate) fn is_in_the_way(observer: &Observer, flit: Flit, other: usize) -> bool {
-    let agent = usize::from(teller_of(flit).0);
-    let mut pair = pair_of(observer, agent, other);
-    other != agent && matches!(pair.take(flit), Err(Reason::OtherCopy))
-}
-
 /// Puts `; ` behind the text, but where this is the first.
 fn write_next<A: Allocator>(text: &mut String<A>, first: &mut bool) -> Result<(), AllocError> {
     let mark = if *first { "" } else { "; " };
@@ -165,7 +169,7 @@ fn write_next<A: Allocator>(text: &mut String<A>, first: &mut bool) -> Result<()
 impl<A: Allocator> Known<'_, A> {
     /// What was told of the copy of a node last, which is this agent.
     fn copy(&self, node: NodeId, agent: usize) -> CopyText {
-        let told = match self.observer.agents.get(agent) {
+        let told = match self.judge.observer().agents.get(agent) {
             Some(seen) => seen.told,
             None => Told::I,
         };
@@ -176,7 +180,12 @@ impl<A: Allocator> Known<'_, A> {
             },
             None => 0,
         };
-        CopyText { node, told, number }
+        CopyText {
+            node,
+            told,
+            certainty: self.judge.certainty(agent),
+            number,
+        }
     }
 
     /// Puts the copies of all other agents that don't let the flit be taken behind the text.
@@ -184,7 +193,7 @@ impl<A: Allocator> Known<'_, A> {
         let mut first = true;
         for other in 0..AGENTS {
             if let Some(node) = self.requesters.get(other) {
-                if is_in_the_way(self.observer, flit, other) {
+                if self.judge.is_in_the_way(flit, other) {
                     let copy = self.copy(*node, other);
                     write_next(text, &mut first)?;
                     write!(text, "{copy}")?;
@@ -229,7 +238,7 @@ impl<A: Allocator> Known<'_, A> {
 
     /// Puts the words that are others than the known ones behind the text.
     fn write_words(&self, text: &mut String<A>, shown: Data) -> Result<(), AllocError> {
-        let known = known_words(self.observer);
+        let known = known_words(self.judge.observer());
         let mut first = true;
         for word in 0..8 {
             let (is, expected) = (shown[word], known[word]);
@@ -247,7 +256,7 @@ impl<A: Allocator> Known<'_, A> {
 
     /// Puts which moment a requester's CleanShared or ReadOnce lacks behind the text.
     fn write_moment(&self, text: &mut String<A>, agent: Agent) -> Result<(), AllocError> {
-        if reads_once(self.observer, agent) {
+        if reads_once(self.judge.observer(), agent) {
             write!(
                 text,
                 "the home may have lacked the value last stored since its request was sent; "
@@ -280,7 +289,10 @@ impl<A: Allocator> Known<'_, A> {
             }
             Reason::NoDuty => write!(text, "the home has no dirty data to pass on"),
             Reason::Lost => write!(text, "the value last stored may have been thrown away"),
-            Reason::OtherWords => self.write_words(text, words_of(flit)),
+            Reason::OtherWords => {
+                let known = known_words(self.judge.observer());
+                self.write_words(text, words_beside(flit, known))
+            }
             Reason::OtherCopy => self.write_others(text, flit),
             Reason::NoAgent | Reason::NotJudged => write!(text, "it isn't judged"),
         }
@@ -295,25 +307,33 @@ pub(crate) fn words_of(flit: Flit) -> Data {
     }
 }
 
-/// Whether the observer takes the flit.
-fn takes(observer: &Observer, flit: Flit) -> Result<bool, AllocError> {
-    let mut next = observer.clone()?;
-    Ok(next.take(flit).is_ok())
+/// The words of a flit; a load has one, among those that are known.
+pub(crate) fn words_beside(flit: Flit, known: Data) -> Data {
+    let Flit::Up(sent) = flit else {
+        return words_of(flit);
+    };
+    let Act::Load(word) = sent.act else {
+        return sent.shown;
+    };
+    let mut words = known;
+    words[usize::from(word.place.0) % 8] = word.value;
+    words
 }
 
-/// The flits that the observer takes in place of this one, by their names.
+/// The flits that the line takes in place of this one, by their names.
 fn write_allowed<A: Allocator>(
     text: &mut String<A>,
-    observer: &Observer,
+    judge: &Judge<A>,
+    before: &Before,
     flit: Flit,
 ) -> Result<(), AllocError> {
-    let before = text.len();
-    let shown = known_words(observer);
+    let length = text.len();
+    let shown = known_words(judge.observer());
     match flit {
-        Flit::Up(sent) => write_sent(text, observer, sent.agent, shown)?,
-        Flit::Down(given) => write_given(text, observer, given.agent, shown)?,
+        Flit::Up(sent) => write_sent(text, judge, before, sent.agent, shown)?,
+        Flit::Down(given) => write_given(text, judge, before, given.agent, shown)?,
     }
-    if text.len() == before {
+    if text.len() == length {
         write!(text, "nothing")?;
     }
     Ok(())
@@ -333,14 +353,15 @@ fn write_name<A: Allocator>(
 /// The flits that the agent's cache may send.
 fn write_sent<A: Allocator>(
     text: &mut String<A>,
-    observer: &Observer,
+    judge: &Judge<A>,
+    before: &Before,
     agent: Agent,
     shown: Data,
 ) -> Result<(), AllocError> {
     let mut first = true;
     for (act, name) in SENT.iter() {
         let act = *act;
-        if takes(observer, Flit::Up(CacheFlit { agent, act, shown }))? {
+        if judge.takes(Flit::Up(CacheFlit { agent, act, shown }), before) {
             write_name(text, &mut first, name)?;
         }
     }
@@ -350,7 +371,8 @@ fn write_sent<A: Allocator>(
 /// The flits that the home may send to the agent.
 fn write_given<A: Allocator>(
     text: &mut String<A>,
-    observer: &Observer,
+    judge: &Judge<A>,
+    before: &Before,
     agent: Agent,
     shown: Data,
 ) -> Result<(), AllocError> {
@@ -362,7 +384,7 @@ fn write_given<A: Allocator>(
             grant,
             shown,
         };
-        if takes(observer, Flit::Down(flit))? {
+        if judge.takes(Flit::Down(flit), before) {
             write_name(text, &mut first, name)?;
         }
     }
@@ -473,7 +495,9 @@ impl<A: Allocator> Watch<A> {
             None => Some(Agent(0)),
         }
     }
+}
 
+impl<A: Allocator + Copy> Watch<A> {
     /// Puts why the line of a flit doesn't take it behind the text, and what it takes in its place.
     fn write_line_fault(
         &self,
@@ -484,10 +508,16 @@ impl<A: Allocator> Watch<A> {
         let (Some((node, flit)), Some(line)) = (self.judged_in(event), self.place_of(event)) else {
             return Ok(());
         };
-        let untouched = Observer::new();
+        let (log, stores) = (self.options.log, self.options.stores);
+        let untouched = Judge::new(*self.lines.allocator(), log, stores, 0)?;
+        let before = Before {
+            log,
+            stores,
+            last: &self.last,
+        };
         let seen = self.lines.get(&line.0);
-        let observer = match seen {
-            Some(seen) => &seen.observer,
+        let judge = match seen {
+            Some(seen) => &seen.judge,
             None => &untouched,
         };
         let known = Known {
@@ -495,12 +525,13 @@ impl<A: Allocator> Watch<A> {
             node,
             requesters: &self.requesters,
             ids: self.ids.values().as_slice(),
-            observer,
+            judge,
+            before: &before,
             seen,
         };
         known.write_rule(text, flit, reason)?;
         write!(text, "; allowed: ")?;
-        write_allowed(text, observer, flit)
+        write_allowed(text, judge, &before, flit)
     }
 
     /// Puts by which line of the trace the id was opened behind the text, where a reason rests on one.

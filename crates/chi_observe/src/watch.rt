@@ -8,12 +8,14 @@ ghost use Rattle.chi_observe.specs.Lines.{lines_in};
 ghost use Rattle.chi_observe.specs.Grants.{granted, returned};
 ghost use Rattle.chi_observe.specs.Steps.{ids_after};
 ghost use Rattle.chi_observe.specs.Tables.{table_of};
-ghost use Rattle.chi_observe.specs.Watched.{IsCreditWatched, IsFlitWatched, IsWatched, agent_in, allowed, booking_after, counts_access, counts_after, counts_aside, counts_first, mark_of, nothing_watched, settled, table_in, watched};
+ghost use Rattle.chi_observe.specs.Watched.{IsCreditWatched, IsFlitWatched, IsWatched, agent_in, allowed, booking_after, counts_access, counts_after, counts_aside, counts_first, mark_if, nothing_watched, settled, table_in, watched};
 
 use crate::credits::{AccountTable, Booking, account_numbers};
 use crate::events::{Event, LineEvent, Tells, news_of};
 use crate::ids::{CacheLine, IdKey, IdTable, OpenId, Sides, numbers_of};
-use crate::lines::{LineNews, LineStop, LineTable, SpareMarks, is_aside, is_put_aside, tell};
+use crate::judges::Before;
+use crate::left_over::close_id;
+use crate::lines::{LineStop, LineTable, LineTold, SpareMarks, tell};
 use crate::nodes::{add_home, add_requester, agent_of};
 use crate::reasons::{IdReason, LineReason};
 use crate::steps::WatchOptions;
@@ -61,6 +63,11 @@ pub struct Watch<A: Allocator> {
     /// Memory that was taken for lines to come.
     pub(crate) spare: SpareMarks<A>,
     pub(crate) counts: Counts,
+    /// Of each agent the number of the trace's line that is its last flit which names an id from before; 0 where there is
+    /// none.
+    pub(crate) last: [usize; 32],
+    /// The ids that a trace which is cut out of a longer one has named, and that aren't open.
+    pub(crate) named: IdTable<A>,
 }
 
 /// Why a flit isn't taken.
@@ -156,19 +163,14 @@ impl Counts {
     }
 }
 
-/// The line that this sets aside, if it isn't already.
-pub(crate) fn mark_of<A: Allocator>(
-    lines: &LineTable<A>,
-    line: CacheLine,
-    news: LineNews,
-    number: usize,
-) -> Option<Aside>
-    ensures { result ≡ mark_of (lines_in lines.now.entries) line news number }
+/// The line, if it was set aside.
+pub(crate) fn mark_of(told: LineTold, line: CacheLine, number: usize) -> Option<Aside>
+    ensures { result ≡ mark_if told.aside line number }
 {
-    if is_aside(lines, line) || !is_put_aside(lines, line, news) {
-        None
-    } else {
+    if told.aside {
         Some(Aside { number, line })
+    } else {
+        None
     }
 }
 
@@ -198,7 +200,7 @@ fn book_all<A: Allocator>(
 }
 
 /// The id of the key is free, if one is.
-fn free_id<A: Allocator>(ids: &mut IdTable<A>, frees: Option<IdKey>)
+pub(crate) fn free_id<A: Allocator>(ids: &mut IdTable<A>, frees: Option<IdKey>)
     ensures { ids.new.entries ≡ without frees ids.old.entries }
 {
     if let Some(key) = frees {
@@ -207,7 +209,10 @@ fn free_id<A: Allocator>(ids: &mut IdTable<A>, frees: Option<IdKey>)
 }
 
 /// An id is kept open, if one is.
-fn keep_id<A: Allocator>(ids: &mut IdTable<A>, opens: Option<OpenId>) -> Result<(), AllocError>
+pub(crate) fn keep_id<A: Allocator>(
+    ids: &mut IdTable<A>,
+    opens: Option<OpenId>,
+) -> Result<(), AllocError>
     ensures { OnOk result (ids.new.entries ≡ with_id opens ids.old.entries) }
 {
     if let Some(id) = opens {
@@ -254,6 +259,8 @@ impl<A: Allocator + Copy> Watch<A> {
             lines: IndexMap::new(alloc),
             spare: Vec::new(alloc),
             counts: Counts::NOTHING,
+            last: [0; 32],
+            named: IndexMap::new(alloc),
         }
     }
 }
@@ -312,7 +319,7 @@ impl<A: Allocator> Watch<A> {
     /// A credit is returned.
     fn give_back(&mut self, sides: Sides, pcrd: PcrdType) -> Result<(), WatchStop>
         ensures { IsCreditWatched (watched self.old) (watched self.new)
-            (returned (table_in (watched self.old)) sides pcrd) result }
+            (returned self.old.options (table_in (watched self.old)) sides pcrd) result }
     {
         match self.tables().give_back(sides, pcrd) {
             Ok(booking) => Ok(self.keep_booking(&booking)?),
@@ -339,6 +346,7 @@ impl<A: Allocator> Watch<A> {
         add_home(&mut self.homes, agent, event.sides.home)?;
         change_ids(&mut self.ids, change, event.number)?;
         book_all(&mut self.accounts, &change.books)?;
+        close_id(self.options, &mut self.named, change.frees)?;
         self.counts = counts;
         Ok(())
     }
@@ -358,7 +366,11 @@ impl<A: Allocator + Copy> Watch<A> {
     }
 
     /// Takes a flit of a line that ids and credits allow.
-    fn take_allowed(&mut self, event: &LineEvent, change: &Change) -> Result<(), WatchStop>
+    pub(crate) fn take_allowed(
+        &mut self,
+        event: &LineEvent,
+        change: &Change,
+    ) -> Result<(), WatchStop>
         ensures { IsFlitWatched (watched self.old) (watched self.new) event.now change.now result }
     {
         if matches!(change.part, Part::Further) {
@@ -366,17 +378,25 @@ impl<A: Allocator + Copy> Watch<A> {
         }
         let agent = self.agent_in(event);
         let news = news_of(event.tells, change.part, agent);
-        let mark = mark_of(&self.lines, change.line, news, event.number);
         let home = event.sides.home;
+        let before = Before {
+            log: self.options.log,
+            stores: self.options.stores,
+            last: &self.last,
+        };
         match tell(
             &mut self.lines,
             &mut self.spare,
+            &before,
             change.line,
             home,
             news,
             event.number,
         ) {
-            Ok(fresh) => Ok(self.settle(event, change, agent, mark, fresh)?),
+            Ok(told) => {
+                let mark = mark_of(told, change.line, event.number);
+                Ok(self.settle(event, change, agent, mark, told.fresh)?)
+            }
             Err(LineStop::Refused(reason)) => Err(WatchStop::Fault(WatchFault::Line(reason))),
             Err(LineStop::NoMemory) => Err(WatchStop::NoMemory),
         }
@@ -386,9 +406,9 @@ impl<A: Allocator + Copy> Watch<A> {
     fn take_line(&mut self, event: &LineEvent) -> Result<(), WatchStop>
         ensures { IsWatched (watched self.old) (watched self.new) (Event.Line event.now) result }
     {
-        match self.allowed(event) {
-            Ok(change) => self.take_allowed(event, &change),
-            Err(reason) => Err(WatchStop::Fault(WatchFault::Ids(reason))),
+        match &self.allowed(event) {
+            Ok(change) => self.take_allowed(event, change),
+            Err(reason) => self.take_unopened(event, *reason),
         }
     }
 

@@ -1,6 +1,7 @@
 //! A watch with a room: what it answers to flits, and what it tells of the first fault.
 
-use chi_observe::{BenchWatch, CreditTypes, Judged, Room, WatchOptions};
+use chi_observe::{BenchWatch, CreditTypes, Judged, Log, Room, WatchOptions};
+use chi_observer::Stores;
 use chi_trace::any_flit_in;
 use std::alloc::Global;
 
@@ -25,6 +26,8 @@ const TOLD: &[u8] = b"line 7: CompAck of node 8: no completion with DBID 12 of i
 const OPTIONS: WatchOptions = WatchOptions {
     types: CreditTypes::Any,
     early_grants: false,
+    stores: Stores::Hidden,
+    log: Log::Whole,
 };
 
 const ROOM: Room = Room {
@@ -75,4 +78,17 @@ fn is_told_so(alloc: Global) -> bool {
 #[test]
 fn a_flit_that_finds_no_room_changes_nothing(rt: HostRuntime) {
     assert!(rt; is_told_so(rt.alloc()));
+}
+
+/// Whether a bench's watch opens for a log that was taken so.
+fn opens_for(alloc: Global, log: Log) -> bool {
+    let options = WatchOptions { log, ..OPTIONS };
+    BenchWatch::new(alloc, options, ROOM).is_ok()
+}
+
+#[test]
+fn a_bench_takes_whole_logs_alone(rt: HostRuntime) {
+    let alloc = rt.alloc();
+    let whole = opens_for(alloc, Log::Whole);
+    assert!(rt; whole && !opens_for(alloc, Log::Tail) && !opens_for(alloc, Log::Home));
 }

@@ -1,6 +1,7 @@
 //! Short traces, and what is told of them.
 
-use chi_observe::{CreditTypes, Nobody, WatchOptions, observe};
+use chi_observe::{CreditTypes, Log, Nobody, WatchOptions, observe};
+use chi_observer::Stores;
 use chi_script::{Fault, MemoryInput, MemoryOutput};
 
 /// A read, and one flit of another that the home answers while the first holds the line alone.
@@ -17,6 +18,8 @@ const TOLD: &[u8] =
 const OPTIONS: WatchOptions = WatchOptions {
     types: CreditTypes::Any,
     early_grants: false,
+    stores: Stores::Hidden,
+    log: Log::Whole,
 };
 
 #[test]

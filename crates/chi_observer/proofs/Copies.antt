@@ -3,11 +3,12 @@ use Rattle.std.proofs.Common.{rules, arith, ◌≡◌, ◌≢◌, ℕ, ◌<◌, 
 use Rattle.std.specs.Prelude.{Bool, true, false, ◌&&◌, ◌||◌, ◌==◌, not, Option}
 use Rattle.chi_observer.specs.declared.kinds.Snoop.{Snoop}
 use Rattle.chi_observer.specs.declared.flits.Due.{Due}
+use Rattle.chi_observer.specs.declared.flits.Stores.{Stores}
 use Rattle.std.proofs.lemmas.Bool.{eqb-true}
 use Rattle.chi_observer.specs.declared.flits.HomeFlit.{HomeFlit}
 use Rattle.chi_observer.specs.Copies.{Held, holds_data, is_unique, same}
 use Rattle.chi_observer.specs.Copies.Copy.{Invalid, UniqueDirty}
-use Rattle.chi_observer.specs.Rules.{is_free, is_due, makes, settles, needs_alone, needs_quiet, granted, fills, shows, due_granted}
+use Rattle.chi_observer.specs.Rules.{is_free, are_hidden, is_due, makes, settles, needs_alone, needs_quiet, granted, fills, shows, due_granted}
 use Rattle.chi_observer.specs.Tables.{Known, most, may as told_may, reach, fresh, goes_with, told_granted, fills_told, shows_told}
 use Rattle.chi_observer.specs.Worlds.{World, home_may, all_below, put}
 use Rattle.chi_observer.specs.Observed.{Observed, Sound, Meaning, is_beside, goes, takes_home, next_home}
@@ -97,6 +98,9 @@ module _ (o : Observed) (g : HomeFlit) (low : g.agent.0 < 32) (may : home_may o.
   abbrev n : ℕ
   n = g.agent.0
 
+  abbrev mode : Stores
+  mode = o.public.stores
+
   abbrev d : Due
   d = o.public.due n
 
@@ -115,39 +119,39 @@ module _ (o : Observed) (g : HomeFlit) (low : g.agent.0 < 32) (may : home_may o.
   pub fitting : is_due g.grant d q ≡ true
   fitting = left _ _ may
 
-  module _ (s : Held) (r : reach d t s ≡ true) where
-    facts : given_well g.grant d q t s ≡ true
-    facts = given g.grant d q t s (both _ _ fitting r)
+  module _ (s : Held) (r : reach mode d t s ≡ true) where
+    facts : given_well mode g.grant d q t s ≡ true
+    facts = given mode g.grant d q t s (both _ _ fitting r)
 
     pub shows_same : shows_told g.grant t ≡ shows g.grant s
-    shows_same = shown_so g.grant d q t s fitting r
+    shows_same = shown_so mode g.grant d q t s fitting r
 
-    pub reached : reach d' t' (granted g.grant d s) ≡ true
+    pub reached : reach mode d' t' (granted g.grant d s) ≡ true
     reached = left _ _ (left _ _ facts)
 
     -- and is as it is told, but at a snoop
     pub settled_given : (needs_quiet g.grant || told_may t'.told (granted g.grant d s).copy) ≡ true
-    settled_given = right (reach d' t' (granted g.grant d s)) _ (left _ _ facts)
+    settled_given = right (reach mode d' t' (granted g.grant d s)) _ (left _ _ facts)
 
-    facts2 : (implies (fresh d t s) (fresh d' t' (granted g.grant d s)) && (same_truth (fills_told g.grant t) (fills g.grant s) && (implies ((holds_data (granted g.grant d s).copy && not (fills g.grant s)) && not (makes g.grant d)) (holds_data s.copy) && implies (fills g.grant s) (not (fresh d t s))))) ≡ true
-    facts2 = right (reach d' t' (granted g.grant d s) && (needs_quiet g.grant || told_may t'.told (granted g.grant d s).copy)) _ facts
+    facts2 : (implies (fresh mode d t s) (fresh mode d' t' (granted g.grant d s)) && (same_truth (fills_told g.grant t) (fills g.grant s) && (implies ((holds_data (granted g.grant d s).copy && not (fills g.grant s)) && not (makes g.grant d)) (holds_data s.copy) && implies (fills g.grant s) (not (fresh mode d t s))))) ≡ true
+    facts2 = right (reach mode d' t' (granted g.grant d s) && (needs_quiet g.grant || told_may t'.told (granted g.grant d s).copy)) _ facts
 
-    pub unfresh : fresh d' t' (granted g.grant d s) ≡ false → fresh d t s ≡ false
-    unfresh = contrary (fresh d t s) _ (left _ _ facts2)
+    pub unfresh : fresh mode d' t' (granted g.grant d s) ≡ false → fresh mode d t s ≡ false
+    unfresh = contrary (fresh mode d t s) _ (left _ _ facts2)
 
-    facts3 : (same_truth (fills_told g.grant t) (fills g.grant s) && (implies ((holds_data (granted g.grant d s).copy && not (fills g.grant s)) && not (makes g.grant d)) (holds_data s.copy) && implies (fills g.grant s) (not (fresh d t s)))) ≡ true
-    facts3 = right (implies (fresh d t s) (fresh d' t' (granted g.grant d s))) _ facts2
+    facts3 : (same_truth (fills_told g.grant t) (fills g.grant s) && (implies ((holds_data (granted g.grant d s).copy && not (fills g.grant s)) && not (makes g.grant d)) (holds_data s.copy) && implies (fills g.grant s) (not (fresh mode d t s)))) ≡ true
+    facts3 = right (implies (fresh mode d t s) (fresh mode d' t' (granted g.grant d s))) _ facts2
 
     pub fills_same : fills_told g.grant t ≡ fills g.grant s
     fills_same = same_truth_is _ _ (left _ _ facts3)
 
-    facts4 : (implies ((holds_data (granted g.grant d s).copy && not (fills g.grant s)) && not (makes g.grant d)) (holds_data s.copy) && implies (fills g.grant s) (not (fresh d t s))) ≡ true
+    facts4 : (implies ((holds_data (granted g.grant d s).copy && not (fills g.grant s)) && not (makes g.grant d)) (holds_data s.copy) && implies (fills g.grant s) (not (fresh mode d t s))) ≡ true
     facts4 = right (same_truth (fills_told g.grant t) (fills g.grant s)) _ facts3
 
     pub had_data : holds_data (granted g.grant d s).copy ≡ true → fills g.grant s ≡ false → makes g.grant d ≡ false → holds_data s.copy ≡ true
     had_data v e k = follow _ _ (left _ _ facts4) (both _ _ (both _ _ v (flip _ e)) (flip _ k))
 
-    pub still : fills g.grant s ≡ true → fresh d t s ≡ false
+    pub still : fills g.grant s ≡ true → fresh mode d t s ≡ false
     still f = turned _ (follow (fills g.grant s) _ (right (implies ((holds_data (granted g.grant d s).copy && not (fills g.grant s)) && not (makes g.grant d)) (holds_data s.copy)) _ facts4) f)
 
 -- where its data fill a copy the home's words are the value
@@ -164,9 +168,9 @@ module _ (o : Observed) (g : HomeFlit) (w : World) (sound : Sound o) (low : g.ag
       let valid : same (most (told_granted g.grant (o.public.due at') (o.told at'))) Invalid ≡ false = filled g.grant (o.public.due at') (o.public.snooped at') (o.told at') (fitting o g low may') full in
       let rest : (k : ℕ) → k ≢ at' → k < 32 → is_unique (most (o.told k)) ≡ false = λ k h lk. lone (told_granted g.grant (o.public.due at') (o.told at')) (o.told k) valid (goes_else o g sound low takes k h lk) in
       m.current (needed (fills_told g.grant (o.told at')) o.current (left _ (goes o g) (right _ _ (right (home_may o.public g) _ takes))) full)
-      (split (λ k. k < 32 → fresh (o.public.due k) (o.told k) (w.state k) ≡ false) at'
+      (split (λ k. k < 32 → fresh o.public.stores (o.public.due k) (o.told k) (w.state k) ≡ false) at'
       (λ _. still o g low may' (w.state at') (m.told at' low) f)
-      (λ k h lk. and_false (is_free (o.public.due k) (w.state k)) _ (ap (λ b. b && same (w.state k).copy UniqueDirty) (rest k h lk))))
+      (λ k h lk. and_false (are_hidden o.public.stores) _ (and_false (is_free (o.public.due k) (w.state k)) _ (ap (λ b. b && same (w.state k).copy UniqueDirty) (rest k h lk)))))
     where
       needed : (a b : Bool) → (not a || b) ≡ true → a ≡ true → b ≡ true
       needed true b h e = h

@@ -6,6 +6,8 @@ use Rattle.chi_observer.specs.declared.kinds.Snoop.{Snoop}
 use Rattle.chi_observer.specs.declared.told.Told.{Told}
 use Rattle.chi_observer.specs.declared.told.Told.TheVariants.{I, SCOrI, UC, UCOrI, UCOrUCE, UD, SD}
 use Rattle.chi_observer.specs.declared.flits.Due.{Due}
+use Rattle.chi_observer.specs.declared.flits.Stores.{Stores}
+use Rattle.chi_observer.specs.declared.flits.Stores.TheVariants.{Hidden, Listed}
 use Rattle.chi_observer.specs.declared.flits.Grant.{Grant}
 use Rattle.chi_observer.specs.declared.flits.Grant.TheVariants.{RetryAck, Snp, CompData, CompUC, CompSC, CompI, CompDBIDResp}
 use Rattle.chi_observer.specs.Copies.{Copy, Held, holds_data, is_unique, same, compatible}
@@ -17,23 +19,24 @@ use Rattle.chi_observer.proofs.Spots.{all_gifts, held_gifts, each_gift, told_gif
 use Rattle.chi_observer.proofs.Facts.{turned, same_truth, same_truth_is, same_is, same_held, of_form, is_settled}
 
 -- forward
-abbrev pub given_well : Grant → Due → Option Snoop → Known → Held → Bool
-given_well g d q t s = (reach (due_granted g d) (told_granted g d t) (granted g d s) && (needs_quiet g || may (told_granted g d t).told (granted g d s).copy))
-    && (implies (fresh d t s) (fresh (due_granted g d) (told_granted g d t) (granted g d s))
+abbrev pub given_well : Stores → Grant → Due → Option Snoop → Known → Held → Bool
+given_well mode g d q t s = (reach mode (due_granted g d) (told_granted g d t) (granted g d s) && (needs_quiet g || may (told_granted g d t).told (granted g d s).copy))
+    && (implies (fresh mode d t s) (fresh mode (due_granted g d) (told_granted g d t) (granted g d s))
     && (same_truth (fills_told g t) (fills g s)
     && (implies ((holds_data (granted g d s).copy && not (fills g s)) && not (makes g d)) (holds_data s.copy)
-    && implies (fills g s) (not (fresh d t s)))))
+    && implies (fills g s) (not (fresh mode d t s)))))
 
-given_table : Grant → Due → Option Snoop → Known → Held → Bool
-given_table g d q t s = implies (reach d t s) (given_well g d q t s)
+given_table : Stores → Grant → Due → Option Snoop → Known → Held → Bool
+given_table mode g d q t s = implies (reach mode d t s) (given_well mode g d q t s)
 
-given_holds : all_gifts (held_gifts given_table) ≡ true
+given_holds : (mode : Stores) → all_gifts (held_gifts (given_table mode)) ≡ true
 unfolding given_table
-given_holds = refl
+given_holds Hidden = refl
+given_holds Listed = refl
 
-pub given : (g : Grant) (d : Due) (q : Option Snoop) (t : Known) (s : Held) → (is_due g d q && reach d t s) ≡ true → given_well g d q t s ≡ true
+pub given : (mode : Stores) (g : Grant) (d : Due) (q : Option Snoop) (t : Known) (s : Held) → (is_due g d q && reach mode d t s) ≡ true → given_well mode g d q t s ≡ true
 unfolding given_table
-given g d q t s h = follow _ _ (each_gift given_table given_holds g d q (left _ _ h) t s) (right (is_due g d q) _ h)
+given mode g d q t s h = follow _ _ (each_gift (given_table mode) (given_holds mode) g d q (left _ _ h) t s) (right (is_due g d q) _ h)
 
 -- data that fill a copy are the home's own
 pub copy_data : (g : Grant) (b : Bool) → (gives_copy g && b) ≡ true → (gives_data g && (not (gives_copy g) || b)) ≡ true
@@ -49,28 +52,30 @@ copy_data CompSC b h = no h
 copy_data CompI b h = no h
 copy_data CompDBIDResp b h = no h
 
-shows_table : Grant → Due → Option Snoop → Known → Held → Bool
-shows_table g d q t s = implies (reach d t s) (same_truth (shows_told g t) (shows g s))
+shows_table : Stores → Grant → Due → Option Snoop → Known → Held → Bool
+shows_table mode g d q t s = implies (reach mode d t s) (same_truth (shows_told g t) (shows g s))
 
-shows_holds : all_gifts (held_gifts shows_table) ≡ true
+shows_holds : (mode : Stores) → all_gifts (held_gifts (shows_table mode)) ≡ true
 unfolding shows_table
-shows_holds = refl
+shows_holds Hidden = refl
+shows_holds Listed = refl
 
-pub shown_so : (g : Grant) (d : Due) (q : Option Snoop) (t : Known) (s : Held) → is_due g d q ≡ true → reach d t s ≡ true → shows_told g t ≡ shows g s
+pub shown_so : (mode : Stores) (g : Grant) (d : Due) (q : Option Snoop) (t : Known) (s : Held) → is_due g d q ≡ true → reach mode d t s ≡ true → shows_told g t ≡ shows g s
 unfolding shows_table
-shown_so g d q t s h r = same_truth_is _ _ (follow (reach d t s) _ (each_gift shows_table shows_holds g d q h t s) r)
+shown_so mode g d q t s h r = same_truth_is _ _ (follow (reach mode d t s) _ (each_gift (shows_table mode) (shows_holds mode) g d q h t s) r)
 
 -- but for a snoop its agent's copy can't have been stored to
-calm_table : Grant → Due → Option Snoop → Known → Held → Bool
-calm_table g d q t s = needs_quiet g || not (fresh d t s)
+calm_table : Stores → Grant → Due → Option Snoop → Known → Held → Bool
+calm_table mode g d q t s = needs_quiet g || not (fresh mode d t s)
 
-calm_holds : all_gifts (held_gifts calm_table) ≡ true
+calm_holds : (mode : Stores) → all_gifts (held_gifts (calm_table mode)) ≡ true
 unfolding calm_table
-calm_holds = refl
+calm_holds Hidden = refl
+calm_holds Listed = refl
 
-pub calm_given : (g : Grant) (d : Due) (q : Option Snoop) (t : Known) (s : Held) → is_due g d q ≡ true → (needs_quiet g || not (fresh d t s)) ≡ true
+pub calm_given : (mode : Stores) (g : Grant) (d : Due) (q : Option Snoop) (t : Known) (s : Held) → is_due g d q ≡ true → (needs_quiet g || not (fresh mode d t s)) ≡ true
 unfolding calm_table
-calm_given g d q t s h = each_gift calm_table calm_holds g d q h t s
+calm_given mode g d q t s h = each_gift (calm_table mode) (calm_holds mode) g d q h t s
 
 -- and back: the copy before
 abbrev pub empty_before : Told → Copy
@@ -106,19 +111,20 @@ form_before other d t s' = s'
 abbrev pub granted_before : Grant → Due → Known → Held → Held
 granted_before g d t s' = of_form (form_before g d t.told s'.copy) s'
 
-abbrev pub got_to : Grant → Due → Option Snoop → Known → Held → Bool
-got_to g d q t s' = reach (due_granted g d) (told_granted g d t) s' && (needs_quiet g || is_settled (due_granted g d) (told_granted g d t) s')
+abbrev pub got_to : Stores → Grant → Due → Option Snoop → Known → Held → Bool
+got_to mode g d q t s' = reach mode (due_granted g d) (told_granted g d t) s' && (needs_quiet g || is_settled (due_granted g d) (told_granted g d t) s')
 
-got_table : Grant → Due → Option Snoop → Known → Held → Bool
-got_table g d q t s' = implies (got_to g d q t s') (reach d t (granted_before g d t s') && same_held s' (granted g d (granted_before g d t s')))
+got_table : Stores → Grant → Due → Option Snoop → Known → Held → Bool
+got_table mode g d q t s' = implies (got_to mode g d q t s') (reach mode d t (granted_before g d t s') && same_held s' (granted g d (granted_before g d t s')))
 
-got_holds : all_gifts (held_gifts got_table) ≡ true
+got_holds : (mode : Stores) → all_gifts (held_gifts (got_table mode)) ≡ true
 unfolding got_table
-got_holds = refl
+got_holds Hidden = refl
+got_holds Listed = refl
 
-pub got : (g : Grant) (d : Due) (q : Option Snoop) (t : Known) (s' : Held) → is_due g d q ≡ true → got_to g d q t s' ≡ true → (reach d t (granted_before g d t s') && same_held s' (granted g d (granted_before g d t s'))) ≡ true
+pub got : (mode : Stores) (g : Grant) (d : Due) (q : Option Snoop) (t : Known) (s' : Held) → is_due g d q ≡ true → got_to mode g d q t s' ≡ true → (reach mode d t (granted_before g d t s') && same_held s' (granted g d (granted_before g d t s'))) ≡ true
 unfolding got_table
-got g d q t s' h = follow _ _ (each_gift got_table got_holds g d q h t s')
+got mode g d q t s' h = follow _ _ (each_gift (got_table mode) (got_holds mode) g d q h t s')
 
 -- beside any copy none is told to be unique
 lone_table : Told → Told → Bool

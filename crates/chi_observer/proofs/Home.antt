@@ -2,6 +2,7 @@
 use Rattle.std.proofs.Common.{◌≡◌, ◌≢◌, ◌⊎◌, inl, inr, ℕ, ◌<◌, List, refl, sym, ap, subst, ◌∙◌}
 use Rattle.std.specs.Prelude.{Bool, true, false, ◌&&◌, ◌||◌, not, Option, Some, if◌then◌else◌}
 use Rattle.chi_observer.specs.declared.flits.Due.{Due}
+use Rattle.chi_observer.specs.declared.flits.Stores.{Stores}
 use Rattle.chi_observer.specs.declared.flits.HomeFlit.{HomeFlit}
 use Rattle.chi_observer.specs.Copies.{Held, holds_data}
 use Rattle.chi_observer.specs.Copies.Copy.{Invalid}
@@ -25,6 +26,9 @@ value_cases false x o v h = inr (refl, h)
 module _ (o : Observed) (g : HomeFlit) (w w' : World) (sound : Sound o) (low : g.agent.0 < 32) (takes : takes_home o g ≡ true) (m : Meaning o w) (informed : Informed g w) (gives : Gives o.public g w w') where
   abbrev n : ℕ
   n = g.agent.0
+
+  abbrev mode : Stores
+  mode = o.public.stores
 
   abbrev d : Due
   d = o.public.due n
@@ -59,10 +63,10 @@ module _ (o : Observed) (g : HomeFlit) (w w' : World) (sound : Sound o) (low : g
   -- beside what its agent writes there is none
   alone : makes g.grant d ≡ true → (k : ℕ) → k ≢ n → k < 32 → holds_data (w.state k).copy ≡ false
   alone e k h lk = beside_unique (granted g.grant d s).copy (w.state k).copy (left _ _ (made_copy g.grant d s.copy e))
-      (below d' (o.public.due k) t' (o.told k) (granted g.grant d s) (w.state k) (reached o g low may s (m.told n low)) (m.told k lk) (goes_else o g sound low takes k h lk))
+      (below mode d' (o.public.due k) t' (o.told k) (granted g.grant d s) (w.state k) (reached o g low may s (m.told n low)) (m.told k lk) (goes_else o g sound low takes k h lk))
 
   none_else : settles g.grant d ≡ true → (k : ℕ) → k ≢ n → k < 32 → holds_data (w.state k).copy ≡ false
-  none_else z k h lk = ap holds_data (same_is (w.state k).copy Invalid (none_left (o.public.due k) (o.told k) (w.state k) (gone_else o g sound low takes (settled_alone g.grant d z) k h lk) (m.told k lk)))
+  none_else z k h lk = ap holds_data (same_is (w.state k).copy Invalid (none_left o.public.stores (o.public.due k) (o.told k) (w.state k) (gone_else o g sound low takes (settled_alone g.grant d z) k h lk) (m.told k lk)))
 
   else_words : (k : ℕ) → k ≢ n → k < 32 → holds_data (w.state k).copy ≡ true → (b z : Bool) → makes g.grant d ≡ b → settles g.grant d ≡ z → w.words k ≡ w'.last
   else_words k h lk v true z e hz = no (sym (alone e k h lk) ∙ v)
@@ -70,10 +74,10 @@ module _ (o : Observed) (g : HomeFlit) (w w' : World) (sound : Sound o) (low : g
   else_words k h lk v false false e hz = m.words k lk v ∙ sym (last_same e hz)
 
   before : Unstored (next_home o g) w' → Unstored o w
-  before u = split (λ k. k < 32 → fresh (o.public.due k) (o.told k) (w.state k) ≡ false) n
-      (λ _. unfresh o g low may s (m.told n low) (subst (λ x. fresh d' t' x ≡ false) gives.state (at_it (λ k a b. k < 32 → fresh a b (w'.state k) ≡ false) n d' t' o.public.due o.told u low)))
-      (λ k h lk. subst (λ x. fresh (o.public.due k) (o.told k) x ≡ false) (gives.others.state k lk h)
-      (at_else (λ k a b. k < 32 → fresh a b (w'.state k) ≡ false) n d' t' o.public.due o.told u k h lk))
+  before u = split (λ k. k < 32 → fresh o.public.stores (o.public.due k) (o.told k) (w.state k) ≡ false) n
+      (λ _. unfresh o g low may s (m.told n low) (subst (λ x. fresh mode d' t' x ≡ false) gives.state (at_it (λ k a b. k < 32 → fresh mode a b (w'.state k) ≡ false) n d' t' o.public.due o.told u low)))
+      (λ k h lk. subst (λ x. fresh o.public.stores (o.public.due k) (o.told k) x ≡ false) (gives.others.state k lk h)
+      (at_else (λ k a b. k < 32 → fresh mode a b (w'.state k) ≡ false) n d' t' o.public.due o.told u k h lk))
 
   home_here : (v : List ℕ) → ((shows_told g.grant t ≡ true) × (g.shown ≡ v)) ⊎ ((shows_told g.grant t ≡ false) × (o.home ≡ Some v)) → w'.home ≡ v
   home_here v (inl c) = gives.home ∙ informed (sym (shows_same o g low may s (m.told n low)) ∙ c.0) ∙ c.1
@@ -91,9 +95,9 @@ module _ (o : Observed) (g : HomeFlit) (w w' : World) (sound : Sound o) (low : g
 
   pub lead_here : Meaning (next_home o g) w'
   lead_here = record {
-    told = everywhere (λ k a b. k < 32 → reach a b (w'.state k) ≡ true) n d' t' o.public.due o.told
-        (λ _. subst (λ x. reach d' t' x ≡ true) (sym gives.state) (reached o g low may s (m.told n low)))
-        (λ k h lk. subst (λ x. reach (o.public.due k) (o.told k) x ≡ true) (sym (gives.others.state k lk h)) (m.told k lk));
+    told = everywhere (λ k a b. k < 32 → reach mode a b (w'.state k) ≡ true) n d' t' o.public.due o.told
+        (λ _. subst (λ x. reach mode d' t' x ≡ true) (sym gives.state) (reached o g low may s (m.told n low)))
+        (λ k h lk. subst (λ x. reach o.public.stores (o.public.due k) (o.told k) x ≡ true) (sym (gives.others.state k lk h)) (m.told k lk));
     words = split (λ k. k < 32 → holds_data (w'.state k).copy ≡ true → w'.words k ≡ w'.last) n
         (λ lk v. here_words v (makes g.grant d) (settles g.grant d) refl refl)
         (λ k h lk v. gives.others.words k lk h ∙ else_words k h lk (subst (λ (x : Held). holds_data x.copy ≡ true) (gives.others.state k lk h) v) (makes g.grant d) (settles g.grant d) refl refl);
@@ -108,5 +112,5 @@ pub home_safe : HomeFlitsAreSafe
 home_safe o g w sound low takes m informed = (
   left _ _ takes,
   λ w' gives. coherent (next_home o g) w' (home_kept o g sound low takes) (home_leads o g w w' sound low takes m informed gives),
-  λ e k lk h. none_left (o.public.due k) (o.told k) (w.state k) (gone_else o g sound low takes e k h lk) (m.told k lk),
+  λ e k lk h. none_left o.public.stores (o.public.due k) (o.told k) (w.state k) (gone_else o g sound low takes e k h lk) (m.told k lk),
 )

@@ -2,10 +2,11 @@
 use Rattle.std.proofs.Common.{◌≡◌, ◌≢◌, ℕ, ◌<◌, List, refl, sym, ap, subst, ◌∙◌}
 use Rattle.std.specs.Prelude.{Bool, true, false, ◌&&◌, ◌||◌, not, Some, if◌then◌else◌}
 use Rattle.chi_observer.specs.declared.flits.Due.{Due}
+use Rattle.chi_observer.specs.declared.flits.Stores.{Stores}
 use Rattle.chi_observer.specs.declared.flits.HomeFlit.{HomeFlit}
 use Rattle.chi_observer.specs.Copies.{Held, holds_data, is_unique, same}
 use Rattle.chi_observer.specs.Copies.Copy.{Invalid, UniqueDirty}
-use Rattle.chi_observer.specs.Rules.{is_free, granted, fills, shows, makes, settles, due_granted, needs_quiet}
+use Rattle.chi_observer.specs.Rules.{is_free, are_hidden, granted, fills, shows, makes, settles, due_granted, needs_quiet}
 use Rattle.chi_observer.specs.Tables.{Known, most, reach, fresh, told_granted, fills_told, shows_told}
 use Rattle.chi_observer.specs.Worlds.{World, Gives, Informed, home_may, put}
 use Rattle.chi_observer.specs.Observed.{Observed, Sound, Unstored, Meaning, goes, takes_home, next_home}
@@ -21,6 +22,9 @@ use Rattle.chi_observer.proofs.Rewind.{Undone, rewind}
 module _ (o : Observed) (g : HomeFlit) (w2 : World) (sound : Sound o) (low : g.agent.0 < 32) (takes : takes_home o g ≡ true) (un : Undone (next_home o g) g.agent.0 w2) (top : (needs_quiet g.grant || is_settled ((next_home o g).public.due g.agent.0) ((next_home o g).told g.agent.0) (w2.state g.agent.0)) ≡ true) where
   abbrev n : ℕ
   n = g.agent.0
+
+  abbrev mode : Stores
+  mode = o.public.stores
 
   abbrev d : Due
   d = o.public.due n
@@ -63,48 +67,48 @@ module _ (o : Observed) (g : HomeFlit) (w2 : World) (sound : Sound o) (low : g.a
   allowed : home_may o.public g ≡ true
   allowed = left _ _ takes
 
-  reached : reach d' t' s2 ≡ true
-  reached = subst (λ x. reach x t' s2 ≡ true) (here n d' o.public.due) (subst (λ x. reach (put n d' o.public.due n) x s2 ≡ true) (here n t' o.told) (un.told n low))
+  reached : reach mode d' t' s2 ≡ true
+  reached = subst (λ x. reach mode x t' s2 ≡ true) (here n d' o.public.due) (subst (λ x. reach mode (put n d' o.public.due n) x s2 ≡ true) (here n t' o.told) (un.told n low))
 
   topped : (needs_quiet g.grant || is_settled d' t' s2) ≡ true
   topped = subst (λ x. (needs_quiet g.grant || is_settled x t' s2) ≡ true) (here n d' o.public.due) (subst (λ x. (needs_quiet g.grant || is_settled (put n d' o.public.due n) x s2) ≡ true) (here n t' o.told) top)
 
-  told_else : (k : ℕ) → k ≢ n → k < 32 → reach (o.public.due k) (o.told k) (w2.state k) ≡ true
-  told_else k h lk = subst (λ x. reach x (o.told k) (w2.state k) ≡ true) (there n d' o.public.due k h)
-      (subst (λ x. reach (put n d' o.public.due k) x (w2.state k) ≡ true) (there n t' o.told k h) (un.told k lk))
+  told_else : (k : ℕ) → k ≢ n → k < 32 → reach o.public.stores (o.public.due k) (o.told k) (w2.state k) ≡ true
+  told_else k h lk = subst (λ x. reach mode x (o.told k) (w2.state k) ≡ true) (there n d' o.public.due k h)
+      (subst (λ x. reach mode (put n d' o.public.due k) x (w2.state k) ≡ true) (there n t' o.told k h) (un.told k lk))
 
-  facts : (reach d t was && same_held s2 (granted g.grant d was)) ≡ true
-  facts = got g.grant d (o.public.snooped n) t s2 (fitting o g low allowed) (both _ _ reached topped)
+  facts : (reach mode d t was && same_held s2 (granted g.grant d was)) ≡ true
+  facts = got mode g.grant d (o.public.snooped n) t s2 (fitting o g low allowed) (both _ _ reached topped)
 
-  old_reach : reach d t was ≡ true
+  old_reach : reach mode d t was ≡ true
   old_reach = left _ _ facts
 
   gives : s2 ≡ granted g.grant d was
-  gives = same_held_is s2 (granted g.grant d was) (right (reach d t was) _ facts)
+  gives = same_held_is s2 (granted g.grant d was) (right (reach mode d t was) _ facts)
 
   Quiet : Type 0
-  Quiet = (k : ℕ) → k ≢ n → k < 32 → fresh (o.public.due k) (o.told k) (w2.state k) ≡ false
+  Quiet = (k : ℕ) → k ≢ n → k < 32 → fresh o.public.stores (o.public.due k) (o.told k) (w2.state k) ≡ false
 
   now : anew ≡ false → Quiet → o.current ≡ true → w2.last ≡ w2.home
   unfolding Quiet
-  now e u c = un.current (or_there (settles g.grant d) _ (both _ _ c (flip _ (not_left _ _ e)))) (λ k h lk. subst (λ x. fresh x (put n t' o.told k) (w2.state k) ≡ false) (sym (there n d' o.public.due k h))
-      (subst (λ x. fresh (o.public.due k) x (w2.state k) ≡ false) (sym (there n t' o.told k h)) (u k h lk)))
+  now e u c = un.current (or_there (settles g.grant d) _ (both _ _ c (flip _ (not_left _ _ e)))) (λ k h lk. subst (λ x. fresh mode x (put n t' o.told k) (w2.state k) ≡ false) (sym (there n d' o.public.due k h))
+      (subst (λ x. fresh o.public.stores (o.public.due k) x (w2.state k) ≡ false) (sym (there n t' o.told k h)) (u k h lk)))
 
   -- none else is left
   none_else : settles g.grant d ≡ true → (k : ℕ) → k ≢ n → k < 32 → same (most (o.told k)) Invalid ≡ true
   none_else z k h lk = gone_else o g sound low takes (settled_alone g.grant d z) k h lk
 
   empty_else : settles g.grant d ≡ true → (k : ℕ) → k ≢ n → k < 32 → holds_data (w2.state k).copy ≡ false
-  empty_else z k h lk = ap holds_data (same_is (w2.state k).copy Invalid (none_left (o.public.due k) (o.told k) (w2.state k) (none_else z k h lk) (told_else k h lk)))
+  empty_else z k h lk = ap holds_data (same_is (w2.state k).copy Invalid (none_left o.public.stores (o.public.due k) (o.told k) (w2.state k) (none_else z k h lk) (told_else k h lk)))
 
   settled_now : settles g.grant d ≡ true → w2.last ≡ w2.home
-  settled_now z = un.current (or_here (settles g.grant d) _ z) (λ k h lk. subst (λ x. fresh x (put n t' o.told k) (w2.state k) ≡ false) (sym (there n d' o.public.due k h))
-      (subst (λ x. fresh (o.public.due k) x (w2.state k) ≡ false) (sym (there n t' o.told k h))
-      (and_false (is_free (o.public.due k) (w2.state k)) _ (ap (λ x. is_unique x && same (w2.state k).copy UniqueDirty) (same_is (most (o.told k)) Invalid (none_else z k h lk))))))
+  settled_now z = un.current (or_here (settles g.grant d) _ z) (λ k h lk. subst (λ x. fresh mode x (put n t' o.told k) (w2.state k) ≡ false) (sym (there n d' o.public.due k h))
+      (subst (λ x. fresh o.public.stores (o.public.due k) x (w2.state k) ≡ false) (sym (there n t' o.told k h))
+      (and_false (are_hidden mode) _ (and_false (is_free (o.public.due k) (w2.state k)) _ (ap (λ x. is_unique x && same (w2.state k).copy UniqueDirty) (same_is (most (o.told k)) Invalid (none_else z k h lk)))))))
 
   quiet_of : Unstored o old → Quiet
   unfolding Quiet
-  quiet_of u k h lk = subst (λ x. fresh (o.public.due k) (o.told k) x ≡ false) (there n was w2.state k h) (u k lk)
+  quiet_of u k h lk = subst (λ x. fresh o.public.stores (o.public.due k) (o.told k) x ≡ false) (there n was w2.state k h) (u k lk)
 
   home_shown : shows_told g.grant t ≡ true → w2.home ≡ g.shown
   home_shown f = un.home g.shown (some_value (shows_told g.grant t) g.shown o.home f)
@@ -117,7 +121,7 @@ module _ (o : Observed) (g : HomeFlit) (w2 : World) (sound : Sound o) (low : g.a
   made e = subst (λ (x : Held). (is_unique x.copy && holds_data x.copy) ≡ true) (sym gives) (made_copy g.grant d was.copy e)
 
   alone : makes g.grant d ≡ true → (k : ℕ) → k ≢ n → k < 32 → holds_data (w2.state k).copy ≡ false
-  alone e k h lk = beside_unique s2.copy (w2.state k).copy (left _ _ (made e)) (below d' (o.public.due k) t' (o.told k) s2 (w2.state k) reached (told_else k h lk) (goes_else o g sound low takes k h lk))
+  alone e k h lk = beside_unique s2.copy (w2.state k).copy (left _ _ (made e)) (below mode d' (o.public.due k) t' (o.told k) s2 (w2.state k) reached (told_else k h lk) (goes_else o g sound low takes k h lk))
 
   else_words : (k : ℕ) → k ≢ n → k < 32 → holds_data (w2.state k).copy ≡ true → (b z : Bool) → makes g.grant d ≡ b → settles g.grant d ≡ z → w2.words k ≡ value
   else_words k h lk v true z e hz = no (sym (alone e k h lk) ∙ v)
@@ -130,9 +134,9 @@ module _ (o : Observed) (g : HomeFlit) (w2 : World) (sound : Sound o) (low : g.a
 
   pub old_meant : Meaning o old
   old_meant = record {
-    told = split (λ k. k < 32 → reach (o.public.due k) (o.told k) (old.state k) ≡ true) n
-        (λ _. subst (λ x. reach d t x ≡ true) (sym (here n was w2.state)) old_reach)
-        (λ k h lk. subst (λ x. reach (o.public.due k) (o.told k) x ≡ true) (sym (there n was w2.state k h)) (told_else k h lk));
+    told = split (λ k. k < 32 → reach o.public.stores (o.public.due k) (o.told k) (old.state k) ≡ true) n
+        (λ _. subst (λ x. reach mode d t x ≡ true) (sym (here n was w2.state)) old_reach)
+        (λ k h lk. subst (λ x. reach o.public.stores (o.public.due k) (o.told k) x ≡ true) (sym (there n was w2.state k h)) (told_else k h lk));
     words = split (λ k. k < 32 → holds_data (old.state k).copy ≡ true → old.words k ≡ value) n
         (λ _ _. here n value w2.words)
         (λ k h lk v. there n value w2.words k h ∙ else_words k h lk (subst (λ (x : Held). holds_data x.copy ≡ true) (there n was w2.state k h) v) (makes g.grant d) (settles g.grant d) refl refl);

@@ -4,9 +4,11 @@ use Rattle.std.specs.Prelude.{Bool, true, false, ◌&&◌, Option, Some, None, i
 use Rattle.chi_observer.specs.declared.kinds.Snoop.{Snoop}
 use Rattle.chi_observer.specs.declared.told.Told.{Told}
 use Rattle.chi_observer.specs.declared.flits.Due.{Due}
+use Rattle.chi_observer.specs.declared.flits.Stores.{Stores}
 use Rattle.chi_observer.specs.declared.flits.Due.TheVariants.{Nothing, Completion, Resending, SureCompletion, WriteData, Acknowledgement}
 use Rattle.chi_observer.specs.declared.flits.Act.{Act}
 use Rattle.chi_observer.specs.declared.flits.Act.TheVariants.{Request, Resend, SnpResp, CompAck, CopyBackWrData, NonCopyBackWrData, Load, Store}
+use Rattle.chi_observer.specs.declared.flits.Word.{Word}
 use Rattle.chi_observer.specs.declared.flits.Grant.{Grant}
 use Rattle.chi_observer.specs.Copies.{Copy, Held}
 use Rattle.chi_observer.specs.Rules.{acts, is_copy_back, is_due, is_whole_write, same_kind}
@@ -26,7 +28,7 @@ can_be other d = true
 empty : (x : Held) → None ≡ Some x → ⊥
 empty x h = search (rules, arith)
 
-if_some : (c : Bool) (x s : Held) → (if c then Some x else None) ≡ Some s → c ≡ true
+pub if_some : (c : Bool) (x s : Held) → (if c then Some x else None) ≡ Some s → c ≡ true
 if_some true x s h = search (rules, arith)
 if_some false x s h = absurd (empty s h)
 
@@ -52,39 +54,43 @@ acted_can NonCopyBackWrData b Acknowledgement s s' e = absurd (empty s' e)
 acted_can (Request x) b d s s' e = refl
 acted_can (SnpResp x) b d s s' e = refl
 acted_can CompAck b d s s' e = refl
-acted_can Load b d s s' e = refl
-acted_can Store b d s s' e = refl
+acted_can (Load word) b d s s' e = refl
+acted_can (Store word) b d s s' e = refl
 
-pub fits_can : (a : Act) (b : Bool) (d : Due) (t : Known) → fits_told a b d t ≡ true → can_be a d ≡ true
-fits_can (Resend x) b (Resending y) t e = left _ _ e
-fits_can (Resend x) b Nothing t e = no e
-fits_can (Resend x) b (Completion y) t e = no e
-fits_can (Resend x) b (SureCompletion y) t e = no e
-fits_can (Resend x) b (WriteData y) t e = no e
-fits_can (Resend x) b Acknowledgement t e = no e
-fits_can (CopyBackWrData x) b (WriteData y) t e = left _ _ e
-fits_can (CopyBackWrData x) b Nothing t e = no e
-fits_can (CopyBackWrData x) b (Completion y) t e = no e
-fits_can (CopyBackWrData x) b (SureCompletion y) t e = no e
-fits_can (CopyBackWrData x) b (Resending y) t e = no e
-fits_can (CopyBackWrData x) b Acknowledgement t e = no e
-fits_can NonCopyBackWrData b (WriteData y) t e = left _ _ e
-fits_can NonCopyBackWrData b Nothing t e = no e
-fits_can NonCopyBackWrData b (Completion y) t e = no e
-fits_can NonCopyBackWrData b (SureCompletion y) t e = no e
-fits_can NonCopyBackWrData b (Resending y) t e = no e
-fits_can NonCopyBackWrData b Acknowledgement t e = no e
-fits_can (Request x) b d t e = refl
-fits_can (SnpResp x) b d t e = refl
-fits_can CompAck b d t e = refl
-fits_can Load b d t e = refl
-fits_can Store b d t e = refl
+pub fits_can : (mode : Stores) (a : Act) (b : Bool) (d : Due) (t : Known) → fits_told mode a b d t ≡ true → can_be a d ≡ true
+fits_can mode (Resend x) b (Resending y) t e = left _ _ e
+fits_can mode (Resend x) b Nothing t e = no e
+fits_can mode (Resend x) b (Completion y) t e = no e
+fits_can mode (Resend x) b (SureCompletion y) t e = no e
+fits_can mode (Resend x) b (WriteData y) t e = no e
+fits_can mode (Resend x) b Acknowledgement t e = no e
+fits_can mode (CopyBackWrData x) b (WriteData y) t e = left _ _ e
+fits_can mode (CopyBackWrData x) b Nothing t e = no e
+fits_can mode (CopyBackWrData x) b (Completion y) t e = no e
+fits_can mode (CopyBackWrData x) b (SureCompletion y) t e = no e
+fits_can mode (CopyBackWrData x) b (Resending y) t e = no e
+fits_can mode (CopyBackWrData x) b Acknowledgement t e = no e
+fits_can mode NonCopyBackWrData b (WriteData y) t e = left _ _ e
+fits_can mode NonCopyBackWrData b Nothing t e = no e
+fits_can mode NonCopyBackWrData b (Completion y) t e = no e
+fits_can mode NonCopyBackWrData b (SureCompletion y) t e = no e
+fits_can mode NonCopyBackWrData b (Resending y) t e = no e
+fits_can mode NonCopyBackWrData b Acknowledgement t e = no e
+fits_can mode (Request x) b d t e = refl
+fits_can mode (SnpResp x) b d t e = refl
+fits_can mode CompAck b d t e = refl
+fits_can mode (Load word) b d t e = refl
+fits_can mode (Store word) b d t e = refl
 
 -- FLITS OF A CACHE
 -- those for which the kind of what is due is of no matter, and those which it has to match
+-- (of a load or a store the word is of no matter, and tried as a variable)
+abbrev some_word : Word
+some_word = record { place = record { 0 = 0 }; value = 0 }
+
 -- x: the snoop lets dirty data be thrown away, which only an answer turns on
-abbrev pub all_plain : (Act → Bool → Bool) → Bool → Bool
-all_plain f x = all_kinds (λ k. f (Request k) x) && (all_answers (λ a. all_bools (λ y. f (SnpResp a) y)) && (f CompAck x && (f Load x && f Store x)))
+abbrev pub all_plain : (Act → Bool → Bool) → Word → Bool → Bool
+all_plain f word x = all_kinds (λ k. f (Request k) x) && (all_answers (λ a. all_bools (λ y. f (SnpResp a) y)) && (f CompAck x && (f (Load word) x && f (Store word) x)))
 
 abbrev pub all_resends : (Act → Due → Bool) → Bool
 all_resends f = all_kinds (λ k. all_kinds (λ q. where_it (same_kind k q) (λ _. f (Resend k) (Resending q))))
@@ -99,16 +105,16 @@ abbrev pub all_paired : (Act → Due → Bool) → Bool
 all_paired f = all_resends f && (all_copy_backs f && all_whole_writes f)
 
 pub record Tried (f : Act → Bool → Due → Bool) : Type 0 where
-  pub plain : (x : Bool) (d : Due) → all_plain (λ a y. f a y d) x ≡ true
+  pub plain : (word : Word) (x : Bool) (d : Due) → all_plain (λ a y. f a y d) word x ≡ true
   pub paired : (x : Bool) → all_paired (λ a d. f a x d) ≡ true
 
 pub each_tried : (f : Act → Bool → Due → Bool) → Tried f → (a : Act) (x : Bool) (d : Due) → can_be a d ≡ true → f a x d ≡ true
-each_tried f h (Request k) x d c = each_kind (λ k. f (Request k) x d) (left (all_kinds (λ k. f (Request k) x d)) _ (h.plain x d)) k
+each_tried f h (Request k) x d c = each_kind (λ k. f (Request k) x d) (left (all_kinds (λ k. f (Request k) x d)) _ (h.plain some_word x d)) k
 each_tried f h (SnpResp a) x d c = each_bool (λ y. f (SnpResp a) y d) (each_answer (λ a. all_bools (λ y. f (SnpResp a) y d))
-    (left (all_answers (λ a. all_bools (λ y. f (SnpResp a) y d))) _ (right (all_kinds (λ k. f (Request k) x d)) _ (h.plain x d))) a) x
-each_tried f h CompAck x d c = left (f CompAck x d) _ (right (all_answers (λ a. all_bools (λ y. f (SnpResp a) y d))) _ (right (all_kinds (λ k. f (Request k) x d)) _ (h.plain x d)))
-each_tried f h Load x d c = left (f Load x d) _ (right (f CompAck x d) _ (right (all_answers (λ a. all_bools (λ y. f (SnpResp a) y d))) _ (right (all_kinds (λ k. f (Request k) x d)) _ (h.plain x d))))
-each_tried f h Store x d c = right (f Load x d) _ (right (f CompAck x d) _ (right (all_answers (λ a. all_bools (λ y. f (SnpResp a) y d))) _ (right (all_kinds (λ k. f (Request k) x d)) _ (h.plain x d))))
+    (left (all_answers (λ a. all_bools (λ y. f (SnpResp a) y d))) _ (right (all_kinds (λ k. f (Request k) x d)) _ (h.plain some_word x d))) a) x
+each_tried f h CompAck x d c = left (f CompAck x d) _ (right (all_answers (λ a. all_bools (λ y. f (SnpResp a) y d))) _ (right (all_kinds (λ k. f (Request k) x d)) _ (h.plain some_word x d)))
+each_tried f h (Load word) x d c = left (f (Load word) x d) _ (right (f CompAck x d) _ (right (all_answers (λ a. all_bools (λ y. f (SnpResp a) y d))) _ (right (all_kinds (λ k. f (Request k) x d)) _ (h.plain word x d))))
+each_tried f h (Store word) x d c = right (f (Load word) x d) _ (right (f CompAck x d) _ (right (all_answers (λ a. all_bools (λ y. f (SnpResp a) y d))) _ (right (all_kinds (λ k. f (Request k) x d)) _ (h.plain word x d))))
 each_tried f h (Resend k) x (Resending q) c = tried (same_kind k q) (λ _. f (Resend k) x (Resending q))
     (each_kind (λ q. where_it (same_kind k q) (λ _. f (Resend k) x (Resending q))) (each_kind (λ k. all_kinds (λ q. where_it (same_kind k q) (λ _. f (Resend k) x (Resending q))))
     (left (all_resends (λ a d. f a x d)) _ (h.paired x)) k) q) c

@@ -58,7 +58,7 @@ unfolding top top_words
 top_is o g low h = record {
   world = top o g;
   meant = record {
-    told = λ k lk. reach_self (o.public.due k) (o.told k);
+    told = λ k lk. reach_self o.public.stores (o.public.due k) (o.told k);
     words = λ _ _ _. refl;
     current = λ _ _. refl;
     home = λ v e. top_value (shows_told g.grant (o.told g.agent.0)) o.home g.shown v h e;
@@ -73,7 +73,7 @@ lost_top o g = record { state = λ k. top_copy (o.public.due k) (o.told k); word
 lost_is : (o : Observed) (g : HomeFlit) → g.agent.0 < 32 → (not (shows_told g.grant (o.told g.agent.0)) || fits o.home g.shown) ≡ true → o.current ≡ false → Meaning o (lost_top o g)
 unfolding lost_top top_words
 lost_is o g low h c = record {
-  told = λ k lk. reach_self (o.public.due k) (o.told k);
+  told = λ k lk. reach_self o.public.stores (o.public.due k) (o.told k);
   words = λ _ _ _. refl;
   current = λ e _. no (sym c ∙ e);
   home = λ v e. top_value (shows_told g.grant (o.told g.agent.0)) o.home g.shown v h e;

@@ -1,10 +1,13 @@
 -- The words of a line, known or not.
-use Rattle.std.proofs.Common.{rules, arith, ◌≡◌, ℕ, List, [], ◌∷◌, suc, length, refl, sym, ap, subst, ◌∙◌}
-use Rattle.std.specs.Prelude.{Bool, true, false, ◌&&◌, ◌||◌, not, Option, Some, None, nat_eq, if◌then◌else◌}
+use Rattle.std.proofs.Common.{rules, arith, ◌≡◌, ℕ, List, [], ◌∷◌, zero, suc, length, refl, sym, ap, subst, ◌∙◌}
+use Rattle.std.specs.Prelude.{Bool, true, false, ◌==◌, ◌&&◌, ◌||◌, not, Option, Some, None, nat_eq, if◌then◌else◌}
 use Rattle.std.specs.Bool.{Decides}
 use Rattle.std.specs.Cmp.{unsigned_Decides}
 use Rattle.std.specs.Cmp.Lexicographic.{pointwise, pointwise_decides}
-use Rattle.chi_observer.specs.Observed.{fits}
+use Rattle.chi_observer.specs.declared.flits.Act.{Act}
+use Rattle.chi_observer.specs.declared.flits.Act.TheVariants.{Load}
+use Rattle.chi_observer.specs.Rules.{has_word, looks, word_at}
+use Rattle.chi_observer.specs.Observed.{fits, fits_word}
 use Rattle.chi_observer.proofs.Finite.{no}
 
 same_words : (u v : List ℕ) → Decides (pointwise nat_eq u v) (u ≡ v)
@@ -97,3 +100,45 @@ others_differ v h = absurd (longer (length v) (ap (λ (xs : List ℕ). length xs
 pub be_true : (a : Bool) → (a ≡ false → false ≡ true) → a ≡ true
 be_true true h = refl
 be_true false h = h refl
+
+-- what is no load fits any words
+pub any_word : (a : Act) (v : List ℕ) → looks a ≡ false → has_word a v ≡ true
+any_word (Load word) v h = no (sym h)
+any_word other v h = refl
+
+pub word_fits : (a : Act) (o : Option (List ℕ)) → (looks a ≡ true → (v : List ℕ) → o ≡ Some v → has_word a v ≡ true) → fits_word o a ≡ true
+word_fits a None h = refl
+word_fits (Load word) (Some v) h = h refl v refl
+word_fits other (Some v) h = refl
+
+pub load_fits : (u c : Bool) (o : Option (List ℕ)) (a : Act) → (looks a ≡ true → u ≡ false → c ≡ true → (v : List ℕ) → o ≡ Some v → has_word a v ≡ true) → (u || (not c || fits_word o a)) ≡ true
+load_fits true c o a h = refl
+load_fits false false o a h = refl
+load_fits false true o a h = word_fits a o (λ l v e. h l refl refl v e)
+
+pub known_word : (u c : Bool) (v : List ℕ) (a : Act) → (u || (not c || has_word a v)) ≡ true → u ≡ false → c ≡ true → has_word a v ≡ true
+known_word true c v a h e g = no (sym e)
+known_word false false v a h e g = no g
+known_word false true v a h e g = h
+
+-- words that have the one of a load
+placed : ℕ → ℕ → List ℕ
+placed zero v = v ∷ []
+placed (suc n) v = 0 ∷ placed n v
+
+placed_at : (n v : ℕ) → word_at (placed n v) n ≡ v
+unfolding placed
+placed_at zero v = refl
+placed_at (suc n) v = placed_at n v
+
+same_number : (n v : ℕ) → n ≡ v → (n == v) ≡ true
+same_number n v h = search (rules, arith)
+
+pub words_for : Act → List ℕ
+words_for (Load word) = placed word.place.0 word.value
+words_for other = []
+
+pub for_word : (a : Act) → has_word a (words_for a) ≡ true
+unfolding words_for
+for_word (Load word) = same_number _ _ (placed_at word.place.0 word.value)
+for_word other = refl

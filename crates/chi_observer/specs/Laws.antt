@@ -2,7 +2,7 @@
 use Rattle.std.specs.Prelude.{◌≡◌, ◌<◌, true}
 use Rattle.chi_observer.specs.declared.flits.CacheFlit.{CacheFlit}
 use Rattle.chi_observer.specs.declared.flits.HomeFlit.{HomeFlit}
-use Rattle.chi_observer.specs.Worlds.{World, Coherent, Hidden, Drift, Sends, Gives, IsSafe, Informed}
+use Rattle.chi_observer.specs.Worlds.{World, Coherent, Hidden, Drift, Sends, reads, Gives, IsSafe, Informed}
 use Rattle.chi_observer.specs.Observed.{Observed, Sound, Meaning, takes, next, takes_home, next_home}
 
 abbrev pub MeaningIsCoherent : Type 0
@@ -12,13 +12,24 @@ abbrev pub MeaningIsClosed : Type 0
 MeaningIsClosed = (o : Observed) (w w' : World) → Sound o → Meaning o w → Hidden o.public w w' → Meaning o w'
 
 abbrev pub CacheFlitsAreTaken : Type 0
-CacheFlitsAreTaken = (o : Observed) (f : CacheFlit) (w w' : World) → Sound o → f.agent.0 < 32 → Meaning o w → Sends o.public f w w' → takes o f ≡ true
+CacheFlitsAreTaken = (o : Observed) (f : CacheFlit) (w w' : World) → Sound o → f.agent.0 < 32 → Meaning o w → Sends o.public f w w' → reads o.public f w ≡ true → takes o f ≡ true
 
 abbrev pub CacheFlitsLead : Type 0
 CacheFlitsLead = (o : Observed) (f : CacheFlit) (w w' : World) → Sound o → f.agent.0 < 32 → Meaning o w → Sends o.public f w w' → Meaning (next o f) w'
 
 abbrev pub CacheFlitsKeepSound : Type 0
 CacheFlitsKeepSound = (o : Observed) (f : CacheFlit) → Sound o → f.agent.0 < 32 → takes o f ≡ true → Sound (next o f)
+
+-- a world that sends it, with its word
+pub record SomeSends (o : Observed) (f : CacheFlit) : Type 0 where
+  pub before : World
+  pub sent : World
+  pub meant : Meaning o before
+  pub sends : Sends o.public f before sent
+  pub word : reads o.public f before ≡ true
+
+abbrev pub CacheFlitsArePossible : Type 0
+CacheFlitsArePossible = (o : Observed) (f : CacheFlit) → Sound o → f.agent.0 < 32 → takes o f ≡ true → SomeSends o f
 
 -- where a world comes from
 pub record ComesBy (o : Observed) (f : CacheFlit) (w' : World) : Type 0 where

@@ -8,3 +8,10 @@ pub mod Moments
 pub mod Laws
 pub mod Runs
 pub mod Lines
+pub mod Begun
+pub mod Tails
+pub mod Arriving
+pub mod Arrivals
+pub mod Alike
+pub mod Crossing
+pub mod Late

@@ -2,11 +2,12 @@
 -- kept", "What is proved").
 use Rattle.std.specs.Prelude.{◌≡◌, ◌≢◌, ℕ, ◌<◌, ◌==◌, List, Bool, true, false, ◌&&◌, ◌||◌, not, Option, Some, None, nat_eq, if◌then◌else◌}
 use Rattle.std.specs.Cmp.Lexicographic.{pointwise}
+use Rattle.chi_observer.specs.declared.flits.Act.{Act}
 use Rattle.chi_observer.specs.declared.flits.CacheFlit.{CacheFlit}
 use Rattle.chi_observer.specs.declared.flits.HomeFlit.{HomeFlit}
 use Rattle.chi_observer.specs.Copies.{holds_data, same}
 use Rattle.chi_observer.specs.Copies.Copy.{Invalid, UniqueDirty}
-use Rattle.chi_observer.specs.Rules.{has_data, tells_words, lets_go, needs_alone, makes, settles, allows}
+use Rattle.chi_observer.specs.Rules.{has_data, has_word, reads_any, tells_words, lets_go, needs_alone, makes, settles, allows}
 use Rattle.chi_observer.specs.Tables.{Known, most, reach, fresh, goes_with, told_after, fits_told, renews, told_granted, fills_told, shows_told}
 use Rattle.chi_observer.specs.Worlds.{Public, World, home_may, all_below, put, public_after, public_granted}
 
@@ -26,11 +27,11 @@ pub record Sound (o : Observed) : Type 0 where
 
 -- nobody has stored since the value was told
 abbrev pub Unstored : Observed → World → Type 0
-Unstored o w = (n : ℕ) → n < 32 → fresh (o.public.due n) (o.told n) (w.state n) ≡ false
+Unstored o w = (n : ℕ) → n < 32 → fresh o.public.stores (o.public.due n) (o.told n) (w.state n) ≡ false
 
 -- the worlds that it stands for
 pub record Meaning (o : Observed) (w : World) : Type 0 where
-  pub told : (n : ℕ) → n < 32 → reach (o.public.due n) (o.told n) (w.state n) ≡ true
+  pub told : (n : ℕ) → n < 32 → reach o.public.stores (o.public.due n) (o.told n) (w.state n) ≡ true
   pub words : (n : ℕ) → n < 32 → holds_data (w.state n).copy ≡ true → w.words n ≡ w.last
   pub home : (v : List ℕ) → o.home ≡ Some v → w.home ≡ v
   pub current : o.current ≡ true → Unstored o w → w.last ≡ w.home
@@ -40,11 +41,19 @@ abbrev pub fits : Option (List ℕ) → List ℕ → Bool
 fits None v = true
 fits (Some u) v = pointwise nat_eq u v
 
+abbrev pub fits_word : Option (List ℕ) → Act → Bool
+fits_word None a = true
+fits_word (Some u) a = has_word a u
+
 -- A FLIT OF A CACHE
--- some copy sends it, and its data are the value, where that is known
+-- its data are the value, where that is known, and a load's word is one of it
+abbrev pub words_fit : Observed → CacheFlit → Bool
+words_fit o f = (not (has_data f.act) || (renews o.public.stores f.act (lets_go (o.public.snooped f.agent.0)) (o.public.due f.agent.0) (o.told f.agent.0) || (not o.current || fits o.home f.shown)))
+    && (reads_any o.public.stores (o.public.due f.agent.0) (most (o.told f.agent.0)) || (not o.current || fits_word o.home f.act))
+
+-- some copy sends it, with such words
 abbrev pub takes : Observed → CacheFlit → Bool
-takes o f = allows f.act (o.public.snooped f.agent.0) && (fits_told f.act (lets_go (o.public.snooped f.agent.0)) (o.public.due f.agent.0) (o.told f.agent.0)
-    && (not (has_data f.act) || (renews f.act (lets_go (o.public.snooped f.agent.0)) (o.public.due f.agent.0) (o.told f.agent.0) || (not o.current || fits o.home f.shown))))
+takes o f = allows f.act (o.public.snooped f.agent.0) && (fits_told o.public.stores f.act (lets_go (o.public.snooped f.agent.0)) (o.public.due f.agent.0) (o.told f.agent.0) && words_fit o f)
 
 -- its data are surely not the value that is known
 abbrev pub differs : Observed → CacheFlit → Bool
@@ -61,7 +70,7 @@ next o f = record {
   public = public_after f o.public;
   told = put f.agent.0 (told_after f.act (o.public.due f.agent.0) (o.told f.agent.0) (differs o f)) o.told;
   home = home_after f o.home;
-  current = current_after f (renews f.act (lets_go (o.public.snooped f.agent.0)) (o.public.due f.agent.0) (o.told f.agent.0)) o.current;
+  current = current_after f (renews o.public.stores f.act (lets_go (o.public.snooped f.agent.0)) (o.public.due f.agent.0) (o.told f.agent.0)) o.current;
 }
 
 -- A FLIT OF THE HOME

@@ -1,6 +1,7 @@
 -- What a cache may send, by its own copy alone, and what a flit of the home makes of a copy (Arm IHI 0050 B, chapter 4;
 -- docs/OBSERVER.md, "Flits of a cache", "Flits of the home").
-use Rattle.std.specs.Prelude.{Bool, true, false, ◌&&◌, ◌||◌, not, Option, Some, None, if◌then◌else◌}
+use Rattle.std.specs.Prelude.{ℕ, List, Bool, true, false, ◌&&◌, ◌||◌, ◌==◌, not, Option, Some, None, if◌then◌else◌}
+use Rattle.std.specs.List.{slice_index_or}
 use Rattle.chi_flit.specs.declared.state.State.{State}
 use Rattle.chi_flit.specs.declared.state.State.TheVariants.{I, SC, UC, UD, SD}
 use Rattle.chi_observer.specs.declared.kinds.Snoop.{Snoop}
@@ -8,6 +9,8 @@ use Rattle.chi_observer.specs.declared.kinds.Snoop.TheVariants.{SnpOnce, SnpClea
 use Rattle.chi_observer.specs.declared.kinds.Kind.{Kind}
 use Rattle.chi_observer.specs.declared.kinds.Kind.TheVariants.{ReadNotSharedDirty, ReadShared, ReadClean, ReadOnce, ReadUnique, CleanUnique, MakeUnique, CleanShared, CleanInvalid, MakeInvalid, Evict, WriteBackFull, WriteCleanFull, WriteEvictFull, WriteUniqueFull}
 use Rattle.chi_observer.specs.declared.flits.Due.{Due}
+use Rattle.chi_observer.specs.declared.flits.Stores.{Stores}
+use Rattle.chi_observer.specs.declared.flits.Stores.TheVariants.{Hidden, Listed}
 use Rattle.chi_observer.specs.declared.flits.Due.TheVariants.{Nothing, Completion, Resending, SureCompletion, WriteData, Acknowledgement}
 use Rattle.chi_observer.specs.declared.flits.Answer.{Answer}
 use Rattle.chi_observer.specs.declared.flits.Answer.TheVariants.{SnpRespI, SnpRespSC, SnpRespUC, SnpRespDataI, SnpRespDataSC, SnpRespDataUC, SnpRespDataUD, SnpRespDataSD, SnpRespDataIPD, SnpRespDataSCPD, SnpRespDataUCPD}
@@ -190,17 +193,42 @@ may_be_free Nothing = true
 may_be_free (Resending kind) = true
 may_be_free other = false
 
--- the value last stored is lost: a unique copy is thrown away whose agent may have stored to it
-abbrev pub loses : Act → Bool → Due → Copy → Bool
-loses a x d s = throws a x && (may_be_free d && is_unique s)
+-- stores that nobody saw may be done: none where all are listed
+abbrev pub are_hidden : Stores → Bool
+are_hidden Hidden = true
+are_hidden Listed = false
+
+abbrev pub hides_stores : Stores → Due → Bool
+hides_stores z d = are_hidden z && may_be_free d
+
+-- or one that was seen
+abbrev pub lets_store : Due → Bool
+lets_store Acknowledgement = true
+lets_store other = may_be_free other
+
+-- a load of such a copy may be of any word: a store that nobody saw may be done to it, if only behind the CompAck
+abbrev pub reads_any : Stores → Due → Copy → Bool
+reads_any z d s = are_hidden z && (lets_store d && is_unique s)
+
+-- the value last stored is lost: a unique copy is thrown away whose agent may have stored to it unseen
+abbrev pub loses : Stores → Act → Bool → Due → Copy → Bool
+loses z a x d s = throws a x && (hides_stores z d && is_unique s)
+
+-- words of a line, and whether they have the one that a load shows
+abbrev pub word_at : List ℕ → ℕ → ℕ
+word_at words n = slice_index_or words n 0
+
+abbrev pub has_word : Act → List ℕ → Bool
+has_word (Load word) words = word_at words word.place.0 == word.value
+has_word other words = true
 
 -- a load: it tells that there are data, and not that nothing was stored since
 abbrev pub looks : Act → Bool
-looks Load = true
+looks (Load word) = true
 looks other = false
 
 abbrev pub stores : Act → Bool
-stores Store = true
+stores (Store word) = true
 stores other = false
 
 -- a store may be done: nothing is pending of such a copy, or the CompAck of a completion alone
@@ -209,8 +237,8 @@ may_store Acknowledgement h = true
 may_store other h = is_free other h
 
 -- the value last stored is any then
-abbrev pub leaves_any : Act → Bool → Due → Copy → Bool
-leaves_any a x d s = loses a x d s || stores a
+abbrev pub leaves_any : Stores → Act → Bool → Due → Copy → Bool
+leaves_any z a x d s = loses z a x d s || stores a
 
 -- the copy that a flit leaves, where its cache may send it; x: the snoop lets dirty data be thrown away
 abbrev pub acts : Act → Bool → Due → Held → Option Held
@@ -220,8 +248,8 @@ acts (SnpResp answer) x d h = if is_answered_from answer h.copy || (throws (SnpR
 acts CompAck x Acknowledgement h = Some h
 acts (CopyBackWrData form) x (WriteData kind) h = if is_copy_back kind && is_written_from form h.copy then Some (record { copy = copy_of (written kind form); cancelled = h.cancelled }) else None
 acts NonCopyBackWrData x (WriteData kind) h = if is_whole_write kind && same h.copy Writing then Some (record { copy = Invalid; cancelled = h.cancelled }) else None
-acts Load x d h = if holds_data h.copy then Some h else None
-acts Store x d h = if may_store d h && is_unique h.copy then Some (record { copy = UniqueDirty; cancelled = h.cancelled }) else None
+acts (Load word) x d h = if holds_data h.copy then Some h else None
+acts (Store word) x d h = if may_store d h && is_unique h.copy then Some (record { copy = UniqueDirty; cancelled = h.cancelled }) else None
 acts a x d h = None
 
 abbrev pub answer_has_data : Answer → Bool
@@ -242,8 +270,8 @@ has_data (SnpResp answer) = answer_has_data answer
 has_data CompAck = false
 has_data (CopyBackWrData form) = form_has_data form
 has_data NonCopyBackWrData = false
-has_data Load = false
-has_data Store = false
+has_data (Load word) = false
+has_data (Store word) = false
 
 -- it has the whole line, which its cache writes without a copy
 abbrev pub writes : Act → Bool
@@ -266,8 +294,8 @@ due_after (SnpResp answer) d = d
 due_after CompAck d = Nothing
 due_after (CopyBackWrData form) d = Nothing
 due_after NonCopyBackWrData d = Nothing
-due_after Load d = d
-due_after Store d = d
+due_after (Load word) d = d
+due_after (Store word) d = d
 
 abbrev pub snooped_after : Act → Option Snoop → Option Snoop
 snooped_after (SnpResp answer) q = None

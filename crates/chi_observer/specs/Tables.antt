@@ -8,6 +8,7 @@ use Rattle.chi_observer.specs.declared.kinds.Kind.TheVariants.{ReadNotSharedDirt
 use Rattle.chi_observer.specs.declared.told.Told.{Told}
 use Rattle.chi_observer.specs.declared.told.Told.TheVariants.{I, SC, SCOrI, UC, UCOrI, UCE, UCEOrI, UCOrUCE, UD, SD}
 use Rattle.chi_observer.specs.declared.flits.Due.{Due}
+use Rattle.chi_observer.specs.declared.flits.Stores.{Stores}
 use Rattle.chi_observer.specs.declared.flits.Due.TheVariants.{Nothing, Resending, WriteData, Acknowledgement}
 use Rattle.chi_observer.specs.declared.flits.Answer.{Answer}
 use Rattle.chi_observer.specs.declared.flits.Answer.TheVariants.{SnpRespI, SnpRespSC, SnpRespUC, SnpRespDataI, SnpRespDataSC, SnpRespDataUC, SnpRespDataUD, SnpRespDataSD, SnpRespDataIPD, SnpRespDataSCPD, SnpRespDataUCPD}
@@ -18,7 +19,7 @@ use Rattle.chi_observer.specs.declared.flits.Grant.TheVariants.{RetryAck, CompDa
 use Rattle.chi_observer.specs.Copies.{Copy, Held, copy_of, holds_data, is_unique, is_dirty, is_clean, same, compatible}
 use Rattle.chi_observer.specs.Copies.Copy.{Invalid, SharedClean, UniqueClean, UniqueEmpty, UniqueDirty, SharedDirty, Writing}
 use Rattle.chi_observer.specs.declared.told.Told.TheVariants as tolds
-use Rattle.chi_observer.specs.Rules.{is_free, may_be_free, is_copy_back, is_whole_write, same_kind, left_by, written, gives_data, gives_copy, makes, settles, throws, is_upgraded, is_written_whole}
+use Rattle.chi_observer.specs.Rules.{is_free, may_be_free, hides_stores, are_hidden, lets_store, is_copy_back, is_whole_write, same_kind, left_by, written, gives_data, gives_copy, makes, settles, throws, is_upgraded, is_written_whole}
 
 -- what is told of a copy, and whether a request of its agent that was retried is surely cancelled
 pub record Known : Type 0 where
@@ -47,22 +48,22 @@ may UCEOrI s = same s UniqueEmpty || same s Invalid
 may UCOrUCE s = same s UniqueClean || same s UniqueEmpty
 may other s = same s (strongest other)
 
--- and later, by stores and drops
-abbrev pub may_drift : Told → Copy → Bool
-may_drift t s = may t s || ((is_unique (strongest t) && same s UniqueDirty) || (is_clean (strongest t) && same s Invalid))
+-- and later, by stores that nobody saw and drops
+abbrev pub may_drift : Stores → Told → Copy → Bool
+may_drift z t s = may t s || ((are_hidden z && (is_unique (strongest t) && same s UniqueDirty)) || (is_clean (strongest t) && same s Invalid))
 
 abbrev pub most : Known → Copy
 most k = strongest k.told
 
 -- what it may be: of a retried request that wasn't cancelled just what was told
-abbrev pub reach : Due → Known → Held → Bool
-reach Nothing k h = not h.cancelled && may_drift k.told h.copy
-reach (Resending kind) k h = if h.cancelled then may_drift k.told h.copy else (not k.cancelled && may k.told h.copy)
-reach other k h = not h.cancelled && may k.told h.copy
+abbrev pub reach : Stores → Due → Known → Held → Bool
+reach z Nothing k h = not h.cancelled && may_drift z k.told h.copy
+reach z (Resending kind) k h = if h.cancelled then may_drift z k.told h.copy else (not k.cancelled && may k.told h.copy)
+reach z other k h = not h.cancelled && may k.told h.copy
 
--- such a copy may have been stored to since it was told
-abbrev pub fresh : Due → Known → Held → Bool
-fresh d k h = is_free d h && (is_unique (most k) && same h.copy UniqueDirty)
+-- such a copy may have been stored to unseen since it was told
+abbrev pub fresh : Stores → Due → Known → Held → Bool
+fresh z d k h = are_hidden z && (is_free d h && (is_unique (most k) && same h.copy UniqueDirty))
 
 -- what is told of two copies may be so together
 abbrev pub goes_with : Known → Known → Bool
@@ -138,8 +139,8 @@ tells_dirty other = false
 -- its words aren't the known ones; and behind a store, and a load of a line that was told to be without data
 abbrev pub is_cancelled : Act → Due → Known → Bool → Bool
 is_cancelled (SnpResp answer) (Resending kind) k differ = k.cancelled || (answer_tells_dirty answer && (is_unique (most k) && (differ || not (same (most k) UniqueDirty))))
-is_cancelled Load (Resending kind) k differ = k.cancelled || same (most k) UniqueEmpty
-is_cancelled Store (Resending kind) k differ = true
+is_cancelled (Load word) (Resending kind) k differ = k.cancelled || same (most k) UniqueEmpty
+is_cancelled (Store word) (Resending kind) k differ = true
 is_cancelled a d k differ = false
 
 -- a unique copy that stays as it is, with data or without
@@ -168,8 +169,8 @@ told_behind (Request kind) d t = told_issued kind t
 told_behind (SnpResp answer) d t = told_answered answer t
 told_behind (CopyBackWrData form) (WriteData kind) t = told_as (written kind form)
 told_behind NonCopyBackWrData d t = I
-told_behind Load d t = told_loaded t
-told_behind Store d t = UD
+told_behind (Load word) d t = told_loaded t
+told_behind (Store word) d t = UD
 told_behind a d t = t
 
 abbrev pub told_after : Act → Due → Known → Bool → Known
@@ -179,68 +180,64 @@ told_after a d k differ = record { told = told_behind a d k.told; cancelled = is
 abbrev pub may_be_gone : Told → Bool
 may_be_gone t = same (strongest t) Invalid || is_clean (strongest t)
 
--- the copy may be one that the kind is issued from
-abbrev pub fits_issue : Kind → Told → Bool
-fits_issue ReadNotSharedDirty t = may_be_gone t
-fits_issue ReadShared t = may_be_gone t
-fits_issue ReadClean t = may_be_gone t
-fits_issue ReadUnique t = may_be_gone t || same (strongest t) SharedDirty
-fits_issue CleanUnique t = may_be_gone t || same (strongest t) SharedDirty
-fits_issue MakeUnique t = may_be_gone t || same (strongest t) SharedDirty
-fits_issue ReadOnce t = may_be_gone t
-fits_issue CleanShared t = may_be_gone t
-fits_issue CleanInvalid t = may_be_gone t
-fits_issue MakeInvalid t = may_be_gone t
-fits_issue WriteUniqueFull t = may_be_gone t
-fits_issue Evict t = is_clean (strongest t)
-fits_issue WriteBackFull t = is_dirty (strongest t) || is_unique (strongest t)
-fits_issue WriteCleanFull t = is_dirty (strongest t) || is_unique (strongest t)
-fits_issue WriteEvictFull t = same (strongest t) UniqueClean
+-- the copy may be one that the kind is issued from; u: a store that nobody saw may have been
+abbrev pub fits_issue : Kind → Bool → Told → Bool
+fits_issue ReadNotSharedDirty u t = may_be_gone t
+fits_issue ReadShared u t = may_be_gone t
+fits_issue ReadClean u t = may_be_gone t
+fits_issue ReadUnique u t = may_be_gone t || same (strongest t) SharedDirty
+fits_issue CleanUnique u t = may_be_gone t || same (strongest t) SharedDirty
+fits_issue MakeUnique u t = may_be_gone t || same (strongest t) SharedDirty
+fits_issue ReadOnce u t = may_be_gone t
+fits_issue CleanShared u t = may_be_gone t
+fits_issue CleanInvalid u t = may_be_gone t
+fits_issue MakeInvalid u t = may_be_gone t
+fits_issue WriteUniqueFull u t = may_be_gone t
+fits_issue Evict u t = is_clean (strongest t)
+fits_issue WriteBackFull u t = is_dirty (strongest t) || (u && is_unique (strongest t))
+fits_issue WriteCleanFull u t = is_dirty (strongest t) || (u && is_unique (strongest t))
+fits_issue WriteEvictFull u t = same (strongest t) UniqueClean
 
--- or that the answer is given from: a store may have been where the agent has no request open
-abbrev pub fits_answer : Answer → Due → Told → Bool
-fits_answer SnpRespI d t = may_be_gone t
-fits_answer SnpRespSC d t = is_clean (strongest t) && holds_data (strongest t)
-fits_answer SnpRespUC d t = is_clean (strongest t) && is_unique (strongest t)
-fits_answer SnpRespDataI d t = is_clean (strongest t) && holds_data (strongest t)
-fits_answer SnpRespDataSC d t = is_clean (strongest t) && holds_data (strongest t)
-fits_answer SnpRespDataUC d t = same (strongest t) UniqueClean
-fits_answer SnpRespDataUD d t = same (strongest t) UniqueDirty || (may_be_free d && is_unique (strongest t))
-fits_answer SnpRespDataUCPD d t = same (strongest t) UniqueDirty || (may_be_free d && is_unique (strongest t))
-fits_answer dirty d t = is_dirty (strongest t) || (may_be_free d && is_unique (strongest t))
+-- or that the answer is given from
+abbrev pub fits_answer : Answer → Bool → Told → Bool
+fits_answer SnpRespI u t = may_be_gone t
+fits_answer SnpRespSC u t = is_clean (strongest t) && holds_data (strongest t)
+fits_answer SnpRespUC u t = is_clean (strongest t) && is_unique (strongest t)
+fits_answer SnpRespDataI u t = is_clean (strongest t) && holds_data (strongest t)
+fits_answer SnpRespDataSC u t = is_clean (strongest t) && holds_data (strongest t)
+fits_answer SnpRespDataUC u t = same (strongest t) UniqueClean
+fits_answer SnpRespDataUD u t = same (strongest t) UniqueDirty || (u && is_unique (strongest t))
+fits_answer SnpRespDataUCPD u t = same (strongest t) UniqueDirty || (u && is_unique (strongest t))
+fits_answer dirty u t = is_dirty (strongest t) || (u && is_unique (strongest t))
 
 abbrev pub fits_form : State → Told → Bool
 fits_form states.I t = may_be_gone t
 fits_form form t = same (strongest t) (copy_of form)
 
 -- or that is loaded, or stored to: the line may have been written
-abbrev pub fits_load : Due → Told → Bool
-fits_load d t = holds_data (strongest t) || (may_be_free d && is_unique (strongest t))
-
-abbrev pub lets_store : Due → Bool
-lets_store Acknowledgement = true
-lets_store other = may_be_free other
+abbrev pub fits_load : Bool → Told → Bool
+fits_load u t = holds_data (strongest t) || (u && is_unique (strongest t))
 
 abbrev pub fits_store : Due → Told → Bool
 fits_store d t = lets_store d && is_unique (strongest t)
 
 -- whether some copy that it may be sends the flit; x: the snoop lets dirty data be thrown away
-abbrev pub fits_told : Act → Bool → Due → Known → Bool
-fits_told (Request kind) x d k = may_be_free d && fits_issue kind k.told
-fits_told (Resend kind) x (Resending asked) k = same_kind kind asked && not k.cancelled
-fits_told (SnpResp answer) x d k = fits_answer answer d k.told || (throws (SnpResp answer) x && is_dirty (most k))
-fits_told CompAck x Acknowledgement k = true
-fits_told (CopyBackWrData form) x (WriteData kind) k = is_copy_back kind && fits_form form k.told
-fits_told NonCopyBackWrData x (WriteData kind) k = is_whole_write kind && same (most k) Writing
-fits_told Load x d k = fits_load d k.told
-fits_told Store x d k = fits_store d k.told
-fits_told a x d k = false
+abbrev pub fits_told : Stores → Act → Bool → Due → Known → Bool
+fits_told z (Request kind) x d k = may_be_free d && fits_issue kind (hides_stores z d) k.told
+fits_told z (Resend kind) x (Resending asked) k = same_kind kind asked && not k.cancelled
+fits_told z (SnpResp answer) x d k = fits_answer answer (hides_stores z d) k.told || (throws (SnpResp answer) x && is_dirty (most k))
+fits_told z CompAck x Acknowledgement k = true
+fits_told z (CopyBackWrData form) x (WriteData kind) k = is_copy_back kind && fits_form form k.told
+fits_told z NonCopyBackWrData x (WriteData kind) k = is_whole_write kind && same (most k) Writing
+fits_told z (Load word) x d k = fits_load (hides_stores z d) k.told
+fits_told z (Store word) x d k = fits_store d k.told
+fits_told z a x d k = false
 
 -- and so that there may have been a store since
-abbrev pub renews : Act → Bool → Due → Known → Bool
-renews Load x d k = may_be_free d && same (most k) UniqueEmpty
-renews Store x d k = true
-renews a x d k = may_be_free d && (is_unique (most k) && (tells_dirty a || throws a x))
+abbrev pub renews : Stores → Act → Bool → Due → Known → Bool
+renews z (Load word) x d k = hides_stores z d && same (most k) UniqueEmpty
+renews z (Store word) x d k = true
+renews z a x d k = hides_stores z d && (is_unique (most k) && (tells_dirty a || throws a x))
 
 -- FLITS OF THE HOME
 abbrev pub told_upgraded : Told → Told

@@ -3,15 +3,18 @@
 use Rattle.std.specs.Prelude.{◌≡◌, ◌≢◌, ◌⊎◌, ℕ, ◌<◌, List, Bool, true, false, ◌&&◌, ◌||◌, ◌==◌, not, Option, Some, suc, zero, if◌then◌else◌}
 use Rattle.chi_observer.specs.declared.kinds.Snoop.{Snoop}
 use Rattle.chi_observer.specs.declared.flits.Due.{Due}
+use Rattle.chi_observer.specs.declared.flits.Stores.{Stores}
 use Rattle.chi_observer.specs.declared.flits.CacheFlit.{CacheFlit}
 use Rattle.chi_observer.specs.declared.flits.HomeFlit.{HomeFlit}
 use Rattle.chi_observer.specs.Copies.{Held, holds_data, is_unique, is_clean, is_dirty, same, compatible}
 use Rattle.chi_observer.specs.Copies.Copy.{Invalid, UniqueDirty}
-use Rattle.chi_observer.specs.Rules.{is_free, is_resending, allows, acts, has_data, writes, tells_words, lets_go, throws, stores, leaves_any, needs_alone, makes, settles, overwrites, needs_overwriter, due_after, snooped_after, passes_duty, is_due, needs_duty, needs_quiet, is_busy, granted, fills, shows, due_granted, snooped_granted}
+use Rattle.chi_observer.specs.Rules.{is_free, is_resending, are_hidden, has_word, reads_any, allows, acts, has_data, writes, tells_words, lets_go, throws, stores, leaves_any, needs_alone, makes, settles, overwrites, needs_overwriter, due_after, snooped_after, passes_duty, is_due, needs_duty, needs_quiet, is_busy, granted, fills, shows, due_granted, snooped_granted}
 
--- what flits say by themselves: requests, snoops without an answer, whether the home has dirty data that it must write or
--- pass on, and whether a SnpMakeInvalid was answered and no flit has shown or made the line's value since
+-- whether stores may be hidden, and what flits say by themselves: requests, snoops without an answer, whether the home has
+-- dirty data that it must write or pass on, and whether a SnpMakeInvalid was answered and no flit has shown or made the
+-- line's value since
 pub record Public : Type 0 where
+  pub stores : Stores
   pub due : ℕ → Due
   pub snooped : ℕ → Option Snoop
   pub duty : Bool
@@ -40,8 +43,9 @@ pub record Elsewhere (n : ℕ) (w w' : World) : Type 0 where
   pub words : (m : ℕ) → m < 32 → m ≢ n → w'.words m ≡ w.words m
 
 -- HIDDEN STEPS
--- a store to a unique copy, of a whole line where it has no data
-pub record Stores (p : Public) (n : ℕ) (w w' : World) : Type 0 where
+-- a store that isn't listed, to a unique copy, of a whole line where it has no data
+pub record StoresUnseen (p : Public) (n : ℕ) (w w' : World) : Type 0 where
+  pub hidden : are_hidden p.stores ≡ true
   pub free : is_free (p.due n) (w.state n) ≡ true
   pub unique : is_unique (w.state n).copy ≡ true
   pub dirty : w'.state n ≡ record { copy = UniqueDirty; cancelled = (w.state n).cancelled }
@@ -67,7 +71,7 @@ pub record Hidden (p : Public) (w w' : World) : Type 0 where
   pub low : agent < 32
   pub others : Elsewhere agent w w'
   pub home : w'.home ≡ w.home
-  pub how : Stores p agent w w' ⊎ (Drops p agent w w' ⊎ Cancels p agent w w')
+  pub how : StoresUnseen p agent w w' ⊎ (Drops p agent w w' ⊎ Cancels p agent w w')
 
 pub data Drift (p : Public) : World → World → Type 0 where
   Stay : {w : World} → Drift p w w
@@ -80,11 +84,15 @@ pub record Sends (p : Public) (f : CacheFlit) (w w' : World) : Type 0 where
   pub allowed : allows f.act (p.snooped f.agent.0) ≡ true
   pub act : acts f.act (lets_go (p.snooped f.agent.0)) (p.due f.agent.0) (w.state f.agent.0) ≡ Some (w'.state f.agent.0)
   pub shown : has_data f.act ≡ true → f.shown ≡ w.words f.agent.0
-  pub last : leaves_any f.act (lets_go (p.snooped f.agent.0)) (p.due f.agent.0) (w.state f.agent.0).copy ≡ false → w'.last ≡ (if writes f.act then f.shown else w.last)
+  pub last : leaves_any p.stores f.act (lets_go (p.snooped f.agent.0)) (p.due f.agent.0) (w.state f.agent.0).copy ≡ false → w'.last ≡ (if writes f.act then f.shown else w.last)
   pub home : w'.home ≡ (if tells_words f.act then f.shown else w.home)
   pub words : holds_data (w'.state f.agent.0).copy ≡ true → stores f.act ≡ false → w'.words f.agent.0 ≡ w.words f.agent.0
   pub stored : stores f.act ≡ true → w'.words f.agent.0 ≡ w'.last
   pub others : Elsewhere f.agent.0 w w'
+
+-- its copy has the word of a load, or that may be any
+abbrev pub reads : Public → CacheFlit → World → Bool
+reads p f w = reads_any p.stores (p.due f.agent.0) (w.state f.agent.0).copy || has_word f.act (w.words f.agent.0)
 
 -- f with x at n
 abbrev pub put : {A : Type 0} → ℕ → A → (ℕ → A) → ℕ → A
@@ -92,6 +100,7 @@ put n x f m = if m == n then x else f m
 
 abbrev pub public_after : CacheFlit → Public → Public
 public_after f p = record {
+  stores = p.stores;
   due = put f.agent.0 (due_after f.act (p.due f.agent.0)) p.due;
   snooped = put f.agent.0 (snooped_after f.act (p.snooped f.agent.0)) p.snooped;
   duty = p.duty || passes_duty f.act;
@@ -126,6 +135,7 @@ pub record Gives (p : Public) (g : HomeFlit) (w w' : World) : Type 0 where
 
 abbrev pub public_granted : HomeFlit → Public → Public
 public_granted g p = record {
+  stores = p.stores;
   due = put g.agent.0 (due_granted g.grant (p.due g.agent.0)) p.due;
   snooped = put g.agent.0 (snooped_granted g.grant (p.snooped g.agent.0)) p.snooped;
   duty = p.duty && not (needs_duty g.grant);

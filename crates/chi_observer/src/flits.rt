@@ -4,7 +4,17 @@ ghost use Rattle.std.specs.Prelude.{◌≡◌};
 ghost use Rattle.chi_observer.specs.Judged.{is_judged, judges_act, judges_grant};
 
 use crate::kinds::{Kind, Snoop};
-use chi_flit::{Agent, Data, State};
+use chi_flit::{Agent, Data, State, WordNo};
+
+/// Whether each store of a processor is told of.
+/// Source: `docs/OBSERVER.md`, "Stores that are listed".
+#[derive(Clone, Copy, Debug, PartialEq, Eq)]
+pub enum Stores {
+    /// Any may be missing.
+    Hidden,
+    /// None is missing.
+    Listed,
+}
 
 /// What is due next of an agent's request to the line.
 /// Source: `docs/OBSERVER.md`, "What is kept".
@@ -41,6 +51,15 @@ pub enum Answer {
     SnpRespDataUCPD,
 }
 
+/// A word of the line, as a load reads it or a store writes it.
+/// Source: `docs/TRACES.md`, "Loads and stores".
+#[derive(Clone, Copy, Debug, PartialEq, Eq)]
+pub struct Word {
+    /// Which one of the eight.
+    pub place: WordNo,
+    pub value: u64,
+}
+
 /// What a flit of a cache is.
 /// Source: `docs/OBSERVER.md`, "Flits of a cache".
 #[derive(Clone, Copy, Debug, PartialEq, Eq)]
@@ -57,10 +76,10 @@ pub enum Act {
     CopyBackWrData(State),
     /// The write data of a WriteUniqueFull.
     NonCopyBackWrData,
-    /// A load of its processor: of its words nothing is judged.
-    Load,
-    /// A store of its processor: of its words nothing is judged.
-    Store,
+    /// A load of its processor, of this word.
+    Load(Word),
+    /// A store of its processor, to this word: of what it writes nothing is judged.
+    Store(Word),
 }
 
 /// A flit of a cache.
@@ -127,8 +146,8 @@ impl Act {
             | Act::CompAck
             | Act::CopyBackWrData(_)
             | Act::NonCopyBackWrData
-            | Act::Load
-            | Act::Store => true,
+            | Act::Load(_)
+            | Act::Store(_) => true,
         }
     }
 }

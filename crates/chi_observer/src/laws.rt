@@ -1,7 +1,7 @@
 //! Laws of the rules.
 
 ghost use Rattle.chi_observer.specs.Runs.{LegalIsAccepted, AcceptedIsLegal, AcceptedIsExact, AcceptedIsCoherent, ReadOnceShowsValue};
-ghost use Rattle.chi_observer.specs.Laws.{MeaningIsCoherent, MeaningIsClosed, CacheFlitsAreTaken, CacheFlitsLead, CacheFlitsKeepSound, MeaningComes, HomeFlitsKeepSound, HomeFlitsAreSafe, HomeFlitsLead, HomeFlitsArePossible, SafeFlitsAreTaken, MeaningComesByHome};
+ghost use Rattle.chi_observer.specs.Laws.{MeaningIsCoherent, MeaningIsClosed, CacheFlitsAreTaken, CacheFlitsArePossible, CacheFlitsLead, CacheFlitsKeepSound, MeaningComes, HomeFlitsKeepSound, HomeFlitsAreSafe, HomeFlitsLead, HomeFlitsArePossible, SafeFlitsAreTaken, MeaningComesByHome};
 
 /// The law that each world that the observer's state stands for is coherent, and hidden steps lead to none that it
 /// doesn't stand for.
@@ -11,11 +11,12 @@ pub fn meaning()
     ensures closed { MeaningIsClosed }
 {}
 
-/// The law that a flit of a cache is taken exactly where some world sends it, and leads to just the worlds that it
-/// leaves.
+/// The law that a flit of a cache is taken exactly where some world sends it, in which its copy has the word of a load,
+/// and leads to just the worlds that it leaves, whatever a load's word.
 /// Source: `docs/OBSERVER.md`, "What is proved".
 pub fn cache_flits()
     ensures taken { CacheFlitsAreTaken }
+    ensures possible { CacheFlitsArePossible }
     ensures leads { CacheFlitsLead }
     ensures sound { CacheFlitsKeepSound }
     ensures comes { MeaningComes }

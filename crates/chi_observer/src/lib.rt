@@ -4,16 +4,28 @@
 //! Source: Arm IHI 0050 Issue B, chapter 4, as `docs/OBSERVER.md` reads it.
 #![tactic(auto)]
 
+mod arrivals;
+mod arriving;
+mod begun;
+mod cuts;
 mod flits;
 mod kinds;
+mod late;
 mod laws;
 mod moments;
 mod observer;
+mod prompt;
 mod rules;
 mod told;
 
-pub use flits::{Act, Answer, CacheFlit, Due, Flit, Grant, HomeFlit};
+pub use arrivals::{Arrivals, Aside, Untaken};
+pub use arriving::{Arriving, Earlier, Held};
+pub use begun::{AgentBegun, Begun, Certainty};
+pub use cuts::tails;
+pub use flits::{Act, Answer, CacheFlit, Due, Flit, Grant, HomeFlit, Stores, Word};
 pub use kinds::{Kind, Snoop};
+pub use late::late_flits;
 pub use laws::{cache_flits, home_flits, meaning, traces};
 pub use observer::{AGENTS, AgentSeen, Observer, Reason};
+pub use prompt::{crossing_flits, prompt_flits};
 pub use told::Told;

@@ -1,14 +1,14 @@
 //! The observer of one line.
 
 ghost use Rattle.std.specs.Prelude.{◌≡◌, ◌<◌, ◌&&◌, ◌||◌, IfErr, OnOk, OnErr, Some, false, if◌then◌else◌, is_ok, not, true};
-ghost use Rattle.chi_observer.specs.Rules.{allows, lets_go, makes, needs_duty, passes_duty, settles, tells_words, throws};
+ghost use Rattle.chi_observer.specs.Rules.{allows, has_word, reads_any, word_at, lets_go, makes, needs_duty, passes_duty, settles, tells_words, throws};
 ghost use Rattle.chi_observer.specs.Tables.{fills_told, shows_told, fits_told, is_cancelled, renews, strongest};
 ghost use Rattle.chi_observer.specs.Worlds.{all_below, home_may};
-ghost use Rattle.chi_observer.specs.Observed.{differs, fits, goes, takes, takes_home, next, next_home};
+ghost use Rattle.chi_observer.specs.Observed.{differs, fits, fits_word, goes, takes, takes_home, next, next_home};
 ghost use Rattle.chi_observer.specs.Moments.{after, has_moment};
 ghost use Rattle.chi_observer.specs.Lines.{agent_after, agent_granted, goes_beside, is_given_reason, is_judged_reason, is_quiet, is_reason, is_sent_reason, is_taken, known_of, none_overwrites, nothing_watched, observed, stands_beside, takes_flit, watch, watched};
 
-use crate::flits::{Act, CacheFlit, Due, Flit, Grant, HomeFlit};
+use crate::flits::{Act, CacheFlit, Due, Flit, Grant, HomeFlit, Stores};
 use crate::kinds::Snoop;
 use crate::moments::{shown_behind, waits_behind};
 use crate::rules::{
@@ -16,8 +16,8 @@ use crate::rules::{
     makes, needs_alone, needs_duty, needs_moment, needs_overwriter, needs_quiet, overwrites,
     passes_duty, same_kind, settles, snooped_after, snooped_granted, tells_words, throws,
 };
-use crate::told::{Told, answer_tells_dirty, may_be_free, tells_dirty};
-use chi_flit::Data;
+use crate::told::{Told, answer_tells_dirty, hides_stores, may_be_free, tells_dirty};
+use chi_flit::{Data, WordNo};
 
 /// How many agents an observer follows; their numbers are below it.
 /// Source: `docs/OBSERVER.md`, "What is kept".
@@ -41,6 +41,8 @@ pub struct AgentSeen {
 /// Source: `docs/OBSERVER.md`, "What is kept".
 #[derive(Clone, Debug, Drop, PartialEq, Eq)]
 pub struct Observer {
+    /// Whether each store of a processor is told of.
+    pub stores: Stores,
     /// Of each agent.
     pub agents: [AgentSeen; 32],
     /// The words of the home's own copy, once a flit has shown them.
@@ -90,8 +92,8 @@ pub enum Reason {
 impl Observer {
     /// An observer of a line that no cache has a copy of, with no request open, and whose memory has any words.
     /// Source: `docs/OBSERVER.md`, "What is kept".
-    pub fn new() -> Observer
-        ensures { watched result ≡ nothing_watched }
+    pub fn new(stores: Stores) -> Observer
+        ensures { watched result ≡ nothing_watched stores }
     {
         let nobody = AgentSeen {
             told: Told::I,
@@ -100,6 +102,7 @@ impl Observer {
             snooped: None,
         };
         Observer {
+            stores,
             agents: [nobody; 32],
             home: None,
             current: true,
@@ -135,7 +138,14 @@ impl Observer {
     {
         self.take_told(flit)?;
         self.waits = waits_behind(&self.agents, self.waits, flit);
-        self.shown = shown_behind(&self.agents, self.current, self.waits, &self.shown, flit);
+        self.shown = shown_behind(
+            self.stores,
+            &self.agents,
+            self.current,
+            self.waits,
+            &self.shown,
+            flit,
+        );
         Ok(())
     }
 
@@ -144,6 +154,7 @@ impl Observer {
     fn take_told(&mut self, flit: Flit) -> Result<(), Reason>
         ensures taken { is_ok result ≡ takes_flit (watched self.old) flit }
         ensures after { OnOk result (observed self.new ≡ after (observed self.old) flit) }
+        ensures stores { self.new.stores ≡ self.old.stores }
         ensures shown { self.new.shown ≡ self.old.shown }
         ensures waits { self.new.waits ≡ self.old.waits }
         ensures kept { OnErr result (self.new ≡ self.old) }
@@ -182,6 +193,7 @@ impl Observer {
         requires { flit.agent.0 < 32 }
         ensures taken { is_ok result ≡ takes (observed self.old) flit }
         ensures after { OnOk result (observed self.new ≡ next (observed self.old) flit) }
+        ensures stores { self.new.stores ≡ self.old.stores }
         ensures shown { self.new.shown ≡ self.old.shown }
         ensures waits { self.new.waits ≡ self.old.waits }
         ensures kept { OnErr result (self.new ≡ self.old) }
@@ -190,13 +202,15 @@ impl Observer {
         let at = usize::from(flit.agent.0);
         let agent = self.agents[at];
         let goes = lets_go(agent.snooped);
-        if !agent.sends(flit.act) {
+        if !agent.sends(self.stores, flit.act) {
             return Err(Reason::NotSent);
         }
-        let renewed = agent.is_renewed(flit.act, goes);
+        let renewed = agent.is_renewed(self.stores, flit.act, goes);
         let shows = has_data(flit.act);
         let known = may_be(&self.home, &flit.shown);
-        if shows && !renewed && self.current && !known {
+        let any = agent.reads_any(self.stores);
+        let read = may_read(&self.home, flit.act);
+        if !words_stand(self.current, shows, renewed, known, any, read) {
             return Err(Reason::OtherWords);
         }
         let differs = shows_others(shows, self.current, known);
@@ -236,6 +250,7 @@ impl Observer {
         requires { flit.agent.0 < 32 }
         ensures taken { is_ok result ≡ takes_home (observed self.old) flit }
         ensures after { OnOk result (observed self.new ≡ next_home (observed self.old) flit) }
+        ensures stores { self.new.stores ≡ self.old.stores }
         ensures shown { self.new.shown ≡ self.old.shown }
         ensures waits { self.new.waits ≡ self.old.waits }
         ensures kept { OnErr result (self.new ≡ self.old) }
@@ -267,24 +282,27 @@ impl Observer {
 
 impl AgentSeen {
     /// Whether some copy that the agent may have sends the flit now.
-    fn sends(self, act: Act) -> bool
-        ensures { result ≡ (allows act self.snooped && fits_told act (lets_go self.snooped) self.due (known_of self)) }
+    fn sends(self, stores: Stores, act: Act) -> bool
+        ensures { result ≡ (allows act self.snooped && fits_told stores act (lets_go self.snooped) self.due (known_of self)) }
     {
-        allows(act, self.snooped) && self.may_send(act, lets_go(self.snooped))
+        allows(act, self.snooped) && self.may_send(stores, act, lets_go(self.snooped))
     }
 
     /// Whether some copy that the agent may have sends the flit, where the snoop allows it; `goes` says that it lets
     /// dirty data be thrown away.
-    fn may_send(self, act: Act, goes: bool) -> bool
-        ensures { result ≡ fits_told act goes self.due (known_of self) }
+    fn may_send(self, stores: Stores, act: Act, goes: bool) -> bool
+        ensures { result ≡ fits_told stores act goes self.due (known_of self) }
     {
         match (act, self.due) {
-            (Act::Request(kind), due) => may_be_free(due) && self.told.may_issue(kind),
+            (Act::Request(kind), due) => {
+                may_be_free(due) && self.told.may_issue(kind, hides_stores(stores, due))
+            }
             (Act::Resend(kind), Due::Resending(asked)) => {
                 same_kind(kind, asked) && !self.cancelled
             }
             (Act::SnpResp(answer), due) => {
-                self.told.may_answer(answer, due) || (throws(act, goes) && self.told.is_dirty())
+                self.told.may_answer(answer, hides_stores(stores, due))
+                    || (throws(act, goes) && self.told.is_dirty())
             }
             (Act::CompAck, Due::Acknowledgement) => true,
             (Act::CopyBackWrData(form), Due::WriteData(kind)) => {
@@ -293,26 +311,34 @@ impl AgentSeen {
             (Act::NonCopyBackWrData, Due::WriteData(kind)) => {
                 kind.is_whole_write() && matches!(self.told, Told::Writing)
             }
-            (Act::Load, due) => self.told.may_load(due),
-            (Act::Store, due) => self.told.may_store(due),
+            (Act::Load(_), due) => self.told.may_load(hides_stores(stores, due)),
+            (Act::Store(_), due) => self.told.may_store(due),
             _ => false,
         }
     }
 
+    /// Whether a load of its copy may be of any word: a store that nobody saw may be done to it, if only behind the
+    /// CompAck.
+    fn reads_any(self, stores: Stores) -> bool
+        ensures { result ≡ reads_any stores self.due (strongest self.told) }
+    {
+        matches!(stores, Stores::Hidden) && self.told.may_store(self.due)
+    }
+
     /// Whether the flit says that there may have been a store since the last one.
-    fn is_renewed(self, act: Act, goes: bool) -> bool
-        ensures { result ≡ renews act goes self.due (known_of self) }
+    fn is_renewed(self, stores: Stores, act: Act, goes: bool) -> bool
+        ensures { result ≡ renews stores act goes self.due (known_of self) }
     {
         match act {
-            Act::Load => may_be_free(self.due) && self.told.is_empty(),
-            Act::Store => true,
+            Act::Load(_) => hides_stores(stores, self.due) && self.told.is_empty(),
+            Act::Store(_) => true,
             Act::Request(_)
             | Act::Resend(_)
             | Act::SnpResp(_)
             | Act::CompAck
             | Act::CopyBackWrData(_)
             | Act::NonCopyBackWrData => {
-                may_be_free(self.due)
+                hides_stores(stores, self.due)
                     && (self.told.is_unique() && (tells_dirty(act) || throws(act, goes)))
             }
         }
@@ -329,8 +355,8 @@ impl AgentSeen {
                     || (answer_tells_dirty(answer)
                         && (self.told.is_unique() && (differs || !matches!(self.told, Told::UD))))
             }
-            (Act::Load, Due::Resending(_)) => self.cancelled || self.told.is_empty(),
-            (Act::Store, Due::Resending(_)) => true,
+            (Act::Load(_), Due::Resending(_)) => self.cancelled || self.told.is_empty(),
+            (Act::Store(_), Due::Resending(_)) => true,
             _ => false,
         }
     }
@@ -343,7 +369,7 @@ impl AgentSeen {
     }
 
     /// Whether the data of a flit of the home to the agent are the home's own words.
-    fn is_shown(self, grant: Grant) -> bool
+    pub(crate) fn is_shown(self, grant: Grant) -> bool
         ensures { result ≡ shows_told grant (known_of self) }
     {
         gives_data(grant) && (!gives_copy(grant) || !self.told.is_dirty())
@@ -375,13 +401,62 @@ impl AgentSeen {
 }
 
 /// Whether the words may be those that are known.
-fn may_be(known: &Option<Data>, words: &Data) -> bool
+pub(crate) fn may_be(known: &Option<Data>, words: &Data) -> bool
     ensures { result ≡ fits known.now words.now }
 {
     match known {
         None => true,
         Some(known) => *known == *words,
     }
+}
+
+/// Whether a load's word may be one of those that are known.
+fn may_read(known: &Option<Data>, act: Act) -> bool
+    ensures { result ≡ fits_word known.now act }
+{
+    match known {
+        None => true,
+        Some(known) => has_word(act, known),
+    }
+}
+
+/// Whether the words are those that have the word of a load.
+fn has_word(act: Act, words: &Data) -> bool
+    ensures { result ≡ has_word act words.now }
+{
+    match act {
+        Act::Load(word) => word_at(words, word.place) == word.value,
+        Act::Request(_)
+        | Act::Resend(_)
+        | Act::SnpResp(_)
+        | Act::CompAck
+        | Act::CopyBackWrData(_)
+        | Act::NonCopyBackWrData
+        | Act::Store(_) => true,
+    }
+}
+
+/// The word of this number; 0 beyond the last.
+fn word_at(words: &Data, place: WordNo) -> u64
+    ensures { result ≡ word_at words.now place.0 }
+{
+    let at = usize::from(place.0);
+    if at < 8 { words[at] } else { 0 }
+}
+
+/// Whether a flit's words stand: those that it shows are the known ones, or tell of a store, where some are known; and so
+/// is what a load reads, where it may not be any word.
+fn words_stand(
+    current: bool,
+    shows: bool,
+    renewed: bool,
+    known: bool,
+    any: bool,
+    read: bool,
+) -> bool
+    ensures { result ≡ ((not shows || (renewed || (not current || known))) && (any || (not current || read))) }
+{
+    (!shows || (renewed || (!current || known))) && (any || (!current || read))
 }
 
 /// Whether the home has the duty to write dirty data behind a flit of a cache.
@@ -463,7 +538,7 @@ fn is_none_overwriting(agents: &[AgentSeen; 32], agent: u8) -> bool
 }
 
 /// Whether a copy that is told so goes with each that another agent may have; `alone` says that there is to be none.
-fn stands_beside(agents: &[AgentSeen; 32], agent: u8, told: Told, alone: bool) -> bool
+pub(crate) fn stands_beside(agents: &[AgentSeen; 32], agent: u8, told: Told, alone: bool) -> bool
     ensures { result ≡ stands_beside agents.now agent told alone }
 {
     let mut beside = true;

@@ -58,8 +58,8 @@ pub(crate) fn allows(act: Act, snooped: Option<Snoop>) -> bool
         | Act::CompAck
         | Act::CopyBackWrData(_)
         | Act::NonCopyBackWrData
-        | Act::Load
-        | Act::Store => true,
+        | Act::Load(_)
+        | Act::Store(_) => true,
     }
 }
 
@@ -95,8 +95,8 @@ pub(crate) fn throws(act: Act, lets_go: bool) -> bool
         | Act::CompAck
         | Act::CopyBackWrData(_)
         | Act::NonCopyBackWrData
-        | Act::Load
-        | Act::Store => false,
+        | Act::Load(_)
+        | Act::Store(_) => false,
     }
 }
 
@@ -151,8 +151,8 @@ pub(crate) fn has_data(act: Act) -> bool
         | Act::Resend(_)
         | Act::CompAck
         | Act::NonCopyBackWrData
-        | Act::Load
-        | Act::Store => false,
+        | Act::Load(_)
+        | Act::Store(_) => false,
         Act::SnpResp(answer) => {
             !matches!(
                 answer,
@@ -181,7 +181,7 @@ pub(crate) fn tells_words(act: Act) -> bool
 pub(crate) fn looks(act: Act) -> bool
     ensures { result ≡ looks act }
 {
-    matches!(act, Act::Load)
+    matches!(act, Act::Load(_))
 }
 
 /// What is due behind a flit of a cache.
@@ -191,7 +191,7 @@ pub(crate) fn due_after(act: Act, due: Due) -> Due
     match act {
         Act::Request(kind) => Due::Completion(kind),
         Act::Resend(kind) => Due::SureCompletion(kind),
-        Act::SnpResp(_) | Act::Load | Act::Store => due,
+        Act::SnpResp(_) | Act::Load(_) | Act::Store(_) => due,
         Act::CompAck | Act::CopyBackWrData(_) | Act::NonCopyBackWrData => Due::Nothing,
     }
 }
@@ -207,8 +207,8 @@ pub(crate) fn snooped_after(act: Act, snooped: Option<Snoop>) -> Option<Snoop>
         | Act::CompAck
         | Act::CopyBackWrData(_)
         | Act::NonCopyBackWrData
-        | Act::Load
-        | Act::Store => snooped,
+        | Act::Load(_)
+        | Act::Store(_) => snooped,
     }
 }
 
@@ -225,7 +225,7 @@ pub(crate) fn passes_duty(act: Act) -> bool
         }
         Act::CopyBackWrData(form) => passes_by(form),
         Act::NonCopyBackWrData => true,
-        Act::Request(_) | Act::Resend(_) | Act::CompAck | Act::Load | Act::Store => false,
+        Act::Request(_) | Act::Resend(_) | Act::CompAck | Act::Load(_) | Act::Store(_) => false,
     }
 }
 

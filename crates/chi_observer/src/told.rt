@@ -1,11 +1,11 @@
 //! What flits have told of a copy.
 
-ghost use Rattle.std.specs.Prelude.{◌≡◌, ◌&&◌};
+ghost use Rattle.std.specs.Prelude.{◌≡◌, ◌&&◌, ◌||◌};
 ghost use Rattle.chi_observer.specs.Copies.{compatible, Copy, holds_data, is_clean, is_dirty, is_unique, same};
-ghost use Rattle.chi_observer.specs.Rules.{may_be_free};
-ghost use Rattle.chi_observer.specs.Tables.{answer_tells_dirty, fits_answer, fits_form, fits_issue, fits_load, fits_store, lets_store, may_be_gone, strongest, tells_dirty, told_answered, told_as, told_behind, told_by, told_clean, told_completed, told_empty, told_filled, told_issued, told_loaded, told_shared, told_unique, told_upgraded};
+ghost use Rattle.chi_observer.specs.Rules.{hides_stores, lets_store, may_be_free};
+ghost use Rattle.chi_observer.specs.Tables.{answer_tells_dirty, fits_answer, fits_form, fits_issue, fits_load, fits_store, may_be_gone, strongest, tells_dirty, told_answered, told_as, told_behind, told_by, told_clean, told_completed, told_empty, told_filled, told_issued, told_loaded, told_shared, told_unique, told_upgraded};
 
-use crate::flits::{Act, Answer, Due, Grant};
+use crate::flits::{Act, Answer, Due, Grant, Stores};
 use crate::kinds::Kind;
 use crate::rules::{is_upgraded, is_written_whole, left_by, makes, settles, written};
 use chi_flit::State;
@@ -142,9 +142,10 @@ impl Told {
         }
     }
 
-    /// Whether a request of the kind may come from it, where nothing is open.
-    pub(crate) fn may_issue(self, kind: Kind) -> bool
-        ensures { result ≡ fits_issue kind self }
+    /// Whether a request of the kind may come from it, where nothing is open; `unseen` says that there may have been a
+    /// store that nobody saw.
+    pub(crate) fn may_issue(self, kind: Kind, unseen: bool) -> bool
+        ensures { result ≡ fits_issue kind unseen self }
     {
         match kind {
             Kind::ReadNotSharedDirty
@@ -159,14 +160,14 @@ impl Told {
                 self.may_be_gone() || matches!(self, Told::SD)
             }
             Kind::Evict => self.is_clean(),
-            Kind::WriteBackFull | Kind::WriteCleanFull => self.is_dirty() || self.is_unique(),
+            Kind::WriteBackFull | Kind::WriteCleanFull => self.may_be_dirty(unseen),
             Kind::WriteEvictFull => self.is_unique_clean(),
         }
     }
 
-    /// Whether the answer may come from it; `due` says whether there may have been a store.
-    pub(crate) fn may_answer(self, answer: Answer, due: Due) -> bool
-        ensures { result ≡ fits_answer answer due self }
+    /// Whether the answer may come from it; `unseen` says that there may have been a store that nobody saw.
+    pub(crate) fn may_answer(self, answer: Answer, unseen: bool) -> bool
+        ensures { result ≡ fits_answer answer unseen self }
     {
         match answer {
             Answer::SnpRespI => self.may_be_gone(),
@@ -176,12 +177,19 @@ impl Told {
             Answer::SnpRespUC => self.is_clean() && self.is_unique(),
             Answer::SnpRespDataUC => self.is_unique_clean(),
             Answer::SnpRespDataUD | Answer::SnpRespDataUCPD => {
-                matches!(self, Told::UD) || (may_be_free(due) && self.is_unique())
+                matches!(self, Told::UD) || (unseen && self.is_unique())
             }
             Answer::SnpRespDataSD | Answer::SnpRespDataIPD | Answer::SnpRespDataSCPD => {
-                self.is_dirty() || (may_be_free(due) && self.is_unique())
+                self.may_be_dirty(unseen)
             }
         }
+    }
+
+    /// Whether it may be dirty; `unseen` says that there may have been a store that nobody saw.
+    fn may_be_dirty(self, unseen: bool) -> bool
+        ensures { result ≡ (is_dirty (strongest self) || (unseen && is_unique (strongest self))) }
+    {
+        self.is_dirty() || (unseen && self.is_unique())
     }
 
     /// Whether write data of the form may come from it.
@@ -197,11 +205,11 @@ impl Told {
         }
     }
 
-    /// Whether a load may be of it; `due` says whether there may have been a store.
-    pub(crate) fn may_load(self, due: Due) -> bool
-        ensures { result ≡ fits_load due self }
+    /// Whether a load may be of it; `unseen` says that there may have been a store that nobody saw.
+    pub(crate) fn may_load(self, unseen: bool) -> bool
+        ensures { result ≡ fits_load unseen self }
     {
-        self.holds_data() || (may_be_free(due) && self.is_unique())
+        self.holds_data() || (unseen && self.is_unique())
     }
 
     /// Whether a store to it may be done while this is due.
@@ -219,8 +227,8 @@ impl Told {
             Act::Request(kind) => self.after_request(kind),
             Act::SnpResp(answer) => self.after_answer(answer),
             Act::NonCopyBackWrData => Told::I,
-            Act::Load => self.loaded(),
-            Act::Store => Told::UD,
+            Act::Load(_) => self.loaded(),
+            Act::Store(_) => Told::UD,
             Act::Resend(_) | Act::CompAck => self,
             Act::CopyBackWrData(form) => match due {
                 Due::WriteData(kind) => told_as(written(kind, form)),
@@ -396,6 +404,13 @@ pub(crate) fn may_be_free(due: Due) -> bool
     matches!(due, Due::Nothing | Due::Resending(_))
 }
 
+/// Whether stores that nobody saw may be done while this is due.
+pub(crate) fn hides_stores(stores: Stores, due: Due) -> bool
+    ensures { result ≡ hides_stores stores due }
+{
+    matches!(stores, Stores::Hidden) && may_be_free(due)
+}
+
 /// Whether a store may be done while this is due.
 fn lets_store(due: Due) -> bool
     ensures { result ≡ lets_store due }
@@ -428,7 +443,7 @@ pub(crate) fn tells_dirty(act: Act) -> bool
         | Act::CompAck
         | Act::CopyBackWrData(_)
         | Act::NonCopyBackWrData
-        | Act::Load
-        | Act::Store => false,
+        | Act::Load(_)
+        | Act::Store(_) => false,
     }
 }

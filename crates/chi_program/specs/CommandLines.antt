@@ -8,11 +8,12 @@ use Rattle.clap.specs.declared.builder.action.ArgAction.TheVariants.{Append, Set
 use Rattle.clap.specs.declared.builder.command.Command.{Command}
 use Rattle.clap.specs.declared.builder.command.Command.TheViews.{out-Command}
 use Rattle.chi_explain.specs.declared.observed.StoreListing.{StoreListing}
+use Rattle.chi_observe.specs.declared.judges.Log.{Log}
 use Rattle.chi_flit.specs.declared.numbers.Line.{Line}
 use Rattle.chi_resolution.specs.declared.ledger.Types.{Types}
 use Rattle.chi_script.specs.Words.{◌>>=◌}
 use Rattle.chi_trace.specs.declared.fields.Address.{Address}
-use Rattle.chi_program.specs.Options.{asked_address_of, commands_option, context_option, form_option, is_given, least_option, line_option, rows_option, seed_of, stores_option, turns_of, types_option, watched_types_option, wild_option}
+use Rattle.chi_program.specs.Options.{asked_address_of, commands_option, context_option, form_option, is_given, least_option, line_option, rows_option, seed_of, seen_option, start_option, stores_option, turns_of, types_option, watched_types_option, wild_option}
 use Rattle.chi_program.specs.declared.faults.ArgFault.{ArgFault}
 use Rattle.chi_program.specs.declared.faults.ArgFault.TheVariants.{Bad, NoMemory}
 use Rattle.chi_program.specs.declared.jobs.Job.{Job}
@@ -62,9 +63,9 @@ chart_line = with_rule (with_rule (with_rule (new_app (codes "chart")) file_rule
 abbrev pub explain_line : App
 explain_line = with_rule (with_rule (with_rule (with_rule (with_rule (with_rule (new_app (codes "explain")) file_rule) (option_rule (codes "types"))) (option_rule (codes "stores"))) (flag_rule (codes "early-grants"))) (flag_rule (codes "complete"))) (option_rule (codes "line"))
 
--- `observe FILE [--types T] [--early-grants] [--complete] [--context N] [--progress]`
+-- `observe FILE [--types T] [--stores S] [--start S] [--seen S] [--early-grants] [--complete] [--context N] [--progress]`
 abbrev pub observe_line : App
-observe_line = with_rule (with_rule (with_rule (with_rule (with_rule (with_rule (new_app (codes "observe")) file_rule) (option_rule (codes "types"))) (flag_rule (codes "early-grants"))) (flag_rule (codes "complete"))) (option_rule (codes "context"))) (flag_rule (codes "progress"))
+observe_line = with_rule (with_rule (with_rule (with_rule (with_rule (with_rule (with_rule (with_rule (with_rule (new_app (codes "observe")) file_rule) (option_rule (codes "types"))) (option_rule (codes "stores"))) (option_rule (codes "start"))) (option_rule (codes "seen"))) (flag_rule (codes "early-grants"))) (flag_rule (codes "complete"))) (option_rule (codes "context"))) (flag_rule (codes "progress"))
 
 -- `storm FILE [--seed N] [--turns N]`
 abbrev pub storm_line : App
@@ -105,7 +106,7 @@ command_lines = with_subcommand (with_subcommand (with_subcommand (with_subcomma
 
 -- what a command line asks for: the replay of a file, the check of files, as TAP or not, a chart, of one line alone where one is
 -- given, and of these rows, the explanation of a trace, with its types of credit, the stores that it lists, whether grants may come early,
--- whether nothing may be open at its end, and the one line that is written where one is given, the judgement of a trace, with its types of credit, whether grants may come early,
+-- whether nothing may be open at its end, and the one line that is written where one is given, the judgement of a trace, with its types of credit, the stores that it lists, how it was taken, whether grants may come early,
 -- and whether nothing may be open at its end, a storm with its seed and its turns, the cells that files reach, or those alone that they don't,
 -- in this form, of reports or not, and how many of them at least, how commands are used, the version, or a check file with this header that is drawn, by its seed, the number of its commands, how many in a hundred are drawn from all, the
 -- file of weights where one is given, the list of kinds where one is given, and whether it goes on until nothing is in flight
@@ -114,7 +115,7 @@ pub data AskedCommand : Type 0 where
   check : List Text → Bool → AskedCommand
   chart : Text → Option Line → RowRange → AskedCommand
   explain : Text → Types → StoreListing → (early complete : Bool) → Option Address → AskedCommand
-  observe : Text → Types → (early complete : Bool) → (context : ℕ) → (progress : Bool) → AskedCommand
+  observe : Text → Types → StoreListing → Log → (early complete : Bool) → (context : ℕ) → (progress : Bool) → AskedCommand
   storm : Text → ℕ → ℕ → AskedCommand
   cover : List Text → (missing : Bool) → CellForm → (merge : Bool) → (least : ℕ) → AskedCommand
   draw : Text → ℕ → ℕ → ℕ → (weights kinds : Option Text) → Bool → AskedCommand
@@ -151,8 +152,11 @@ abbrev pub observe_in : List Row → Option AskedCommand
 observe_in rows = do
   path ← first_of (codes "FILE") rows
   types ← watched_types_option (first_of (codes "types") rows)
+  stores ← stores_option (first_of (codes "stores") rows)
+  start ← start_option (first_of (codes "start") rows)
+  log ← seen_option (first_of (codes "seen") rows) start stores
   context ← context_option (first_of (codes "context") rows)
-  Some (observe path types (is_given (first_of (codes "early-grants") rows)) (is_given (first_of (codes "complete") rows)) context (is_given (first_of (codes "progress") rows)))
+  Some (observe path types stores log (is_given (first_of (codes "early-grants") rows)) (is_given (first_of (codes "complete") rows)) context (is_given (first_of (codes "progress") rows)))
 
 -- behind `storm` stand the path and the options
 abbrev pub storm_asked : List Row → Option AskedCommand
@@ -215,7 +219,7 @@ asked_by (Replay path) = replay path.now
 asked_by (Check paths tap) = check (map (λ path. path.now) paths.items) tap
 asked_by (Chart path only rows) = chart path.now only rows
 asked_by (Explain path types stores early complete only) = explain path.now types stores early complete only
-asked_by (Observe path types early complete context progress) = observe path.now types early complete context progress
+asked_by (Observe path types stores log early complete context progress) = observe path.now types stores log early complete context progress
 asked_by (Storm path seed turns) = storm path.now seed turns
 asked_by (Cover paths missing form merge least) = cover (map (λ path. path.now) paths.items) missing form merge least
 asked_by (Draw header seed commands wild weights kinds drain) =

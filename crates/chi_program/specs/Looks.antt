@@ -3,7 +3,7 @@ use Rattle.std.specs.Prelude.{nat_le, Bool, false, List, Result, Ok, Err, is_som
 use Rattle.std.specs.List.{list_any}
 use Rattle.chi_flit.specs.declared.numbers.Line.{Line}
 use Rattle.chi_script.specs.declared.faults.Fault.{Fault}
-use Rattle.chi_script.specs.declared.headers.Header.{Header}
+use Rattle.chi_flit.specs.Config.{Sizes}
 use Rattle.chi_script.specs.Checks.{CheckLine}
 
 abbrev pub is_wanted : CheckLine → Bool
@@ -13,11 +13,11 @@ abbrev pub any_wanted : List CheckLine → Bool
 any_wanted checks = list_any is_wanted checks
 
 -- of a good file's commands
-abbrev pub wants_in : Result (Header × List CheckLine) Fault → Bool
+abbrev pub wants_in : Result (Sizes × List CheckLine) Fault → Bool
 wants_in (Ok (header, checks)) = any_wanted checks
 wants_in (Err fault) = false
 
 -- the header of a good file has no such line
-abbrev pub lacks_line : Line → Result (Header × List CheckLine) Fault → Bool
+abbrev pub lacks_line : Line → Result (Sizes × List CheckLine) Fault → Bool
 lacks_line line (Ok (header, checks)) = nat_le header.lines line.0
 lacks_line line (Err fault) = false

@@ -2,11 +2,13 @@
 use Rattle.std.specs.Prelude.{ℕ, ◌+◌, ◌==◌, Bool, false, true, List, Option, Some, None, codes, drop, take, if◌then◌else◌}
 use Rattle.std.specs.List.{position}
 use Rattle.chi_explain.specs.declared.observed.StoreListing.{StoreListing}
+use Rattle.chi_observe.specs.declared.judges.Log.{Log}
+use Rattle.chi_observe.specs.declared.judges.Log.TheVariants.{Whole, Tail, Home}
 use Rattle.chi_explain.specs.declared.observed.StoreListing.TheVariants.{Partial, Complete}
+use Rattle.chi_flit.specs.Config.{is_between}
 use Rattle.chi_flit.specs.declared.numbers.Line.{Line}
 use Rattle.chi_resolution.specs.declared.ledger.Types.{Types}
 use Rattle.chi_resolution.specs.declared.ledger.Types.TheVariants.{Two, Four, Any}
-use Rattle.chi_script.specs.Headers.{is_from}
 use Rattle.chi_script.specs.Words.{◌>>=◌, is_text, number_of}
 use Rattle.chi_trace.specs.Fields.{address_of}
 use Rattle.chi_trace.specs.declared.fields.Address.{Address}
@@ -22,30 +24,30 @@ seed_of (Some word) = number_of word
 -- the turns are a number of a replay file from 1 to 4,000,000,000, and 10,000,000 where none is given
 abbrev pub turns_of : Option (List ℕ) → Option ℕ
 turns_of None = Some 10000000
-turns_of (Some word) = number_of word >>= λ n. if is_from 1 4000000000 n then Some n else None
+turns_of (Some word) = number_of word >>= λ n. if is_between 1 4000000000 n then Some n else None
 
 -- the commands that are drawn are a number of a replay file from 1 to 10,000,000, which has to be given
 abbrev pub commands_option : Option (List ℕ) → Option ℕ
 commands_option None = None
-commands_option (Some word) = number_of word >>= λ n. if is_from 1 10000000 n then Some n else None
+commands_option (Some word) = number_of word >>= λ n. if is_between 1 10000000 n then Some n else None
 
 -- those in a hundred that are drawn from all are a number of a replay file from 0 to 100, and 0 where none is given
 abbrev pub wild_option : Option (List ℕ) → Option ℕ
 wild_option None = Some 0
-wild_option (Some word) = number_of word >>= λ n. if is_from 0 100 n then Some n else None
+wild_option (Some word) = number_of word >>= λ n. if is_between 0 100 n then Some n else None
 
 -- the line alone that a chart shows is a number of a replay file from 0 to 63, and there is none where none is
 -- given
 abbrev pub line_option : Option (List ℕ) → Option (Option Line)
 line_option None = Some None
-line_option (Some word) = number_of word >>= λ n. if is_from 0 63 n then Some (Some (record { 0 = n })) else None
+line_option (Some word) = number_of word >>= λ n. if is_between 0 63 n then Some (Some (record { 0 = n })) else None
 
 -- the rows of a chart, from the first to the last: numbers of a replay file from 1 on, of which none is below the other
 abbrev pub range_of : List ℕ → List ℕ → Option RowRange
 range_of low high = do
   first ← number_of low
   last ← number_of high
-  if is_from 1 last first then Some (record { first = first; last = last }) else None
+  if is_between 1 last first then Some (record { first = first; last = last }) else None
 
 -- they are written round the first `-`, and all rows are drawn where none are given
 abbrev pub rows_option : Option (List ℕ) → Option RowRange
@@ -64,6 +66,24 @@ types_option (Some word) =
 abbrev pub watched_types_option : Option (List ℕ) → Option Types
 watched_types_option None = Some Any
 watched_types_option (Some word) = types_option (Some word)
+
+-- what the lines of memory are before a trace, and empty where nothing is given: it is a whole one then
+abbrev pub start_option : Option (List ℕ) → Option Log
+start_option None = Some Whole
+start_option (Some word) =
+    if is_text word (codes "empty") then Some Whole else (
+    if is_text word (codes "unknown") then Some Tail else None)
+
+-- where its flits are seen, and where they are sent where nothing is given; at the home it is a whole one, and lists no stores
+abbrev pub home_log : Log → StoreListing → Option Log
+home_log Whole Partial = Some Home
+home_log start stores = None
+
+abbrev pub seen_option : Option (List ℕ) → Log → StoreListing → Option Log
+seen_option None start stores = Some start
+seen_option (Some word) start stores =
+    if is_text word (codes "requesters") then Some start else (
+    if is_text word (codes "home") then home_log start stores else None)
 
 -- which stores a trace lists, and some or none where nothing is given
 abbrev pub stores_option : Option (List ℕ) → Option StoreListing
@@ -97,4 +117,4 @@ least_option (Some word) = number_of word
 -- how many flits of a line are told with a fault is a number of a replay file from 1 to 64, and 0 where none is given
 abbrev pub context_option : Option (List ℕ) → Option ℕ
 context_option None = Some 0
-context_option (Some word) = number_of word >>= λ n. if is_from 1 64 n then Some n else None
+context_option (Some word) = number_of word >>= λ n. if is_between 1 64 n then Some n else None

@@ -61,13 +61,16 @@ explain_lines =
 
 unfoldable pub observe_lines : List ℕ
 observe_lines =
-    codes "chihome observe FILE [--types two|four|any] [--early-grants] [--complete] [--context N] [--progress]\n"
+    codes "chihome observe FILE [--types two|four|any] [--stores hidden|listed] [--start empty|unknown] [--seen requesters|home] [--early-grants] [--complete] [--context N] [--progress]\n"
     ++ (codes "Judges a trace, whatever its home and its caches are.\n"
     ++ (codes "  --types T            its types of credit; any where it isn't given\n"
+    ++ (codes "  --stores S           hidden where not all stores are listed, as where it isn't given; listed where they are\n"
+    ++ (codes "  --start S            what its lines are before it: empty, or unknown where it is cut out of a longer one\n"
+    ++ (codes "  --seen S             where a cache's flits are seen: requesters, as where it isn't given, or home, where it receives them\n"
     ++ (codes "  --early-grants       a grant may come before its RetryAck\n"
     ++ (codes "  --complete           nothing may be open at its end\n"
     ++ (codes "  --context N          with a fault the last N flits of its line, 1 to 64\n"
-    ++ codes "  --progress           how far it has come, each second, where standard error is a terminal\n")))))
+    ++ codes "  --progress           how far it has come, each second, where standard error is a terminal\n"))))))))
 
 unfoldable pub cover_lines : List ℕ
 cover_lines =
@@ -108,7 +111,7 @@ all_lines =
     ++ (codes "chihome chart FILE [--line L] [--rows A-B]\n"
     ++ (codes "chihome storm FILE [--seed N] [--turns N]\n"
     ++ (codes "chihome explain FILE [--types two|four|any] [--stores hidden|listed] [--early-grants] [--complete] [--line ADDR]\n"
-    ++ (codes "chihome observe FILE [--types two|four|any] [--early-grants] [--complete] [--context N] [--progress]\n"
+    ++ (codes "chihome observe FILE [--types two|four|any] [--stores hidden|listed] [--start empty|unknown] [--seen requesters|home] [--early-grants] [--complete] [--context N] [--progress]\n"
     ++ (codes "chihome cover FILE.. [--missing] [--json] [--tsv] [--merge] [--at-least N]\n"
     ++ (codes "chihome draw [--seed N] --commands M [--wild P] [--weights FILE] [--kinds LIST] [--drain] HEADER\n"
     ++ (codes "chihome usage [COMMAND]\n"

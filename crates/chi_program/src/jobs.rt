@@ -7,12 +7,13 @@ ghost use Rattle.chi_program.specs.CommandLines.{IsAsked, IsCommand, asked_behin
 
 use crate::faults::ArgFault;
 use crate::options::{
-    CellForm, RowRange, address, commands, context, form, is_given, least, only, rows, seed,
+    CellForm, RowRange, address, commands, context, form, is_given, least, only, rows, seed, seen, start,
     stores, turns, types, watched_types, wild,
 };
 use crate::usages::{Topic, topic_of};
 use chi_explain::StoreListing;
 use chi_flit::Line;
+use chi_observe::Log;
 use chi_resolution::Types;
 use chi_trace::Address;
 use clap::{Arg, ArgAction, ArgMatches, Command};
@@ -55,12 +56,17 @@ pub enum Job<'a> {
         /// The address of the line whose explanation is written as a check file, where one is given.
         only: Option<Address>,
     },
-    /// `observe FILE [--types two|four|any] [--early-grants] [--complete] [--context N] [--progress]`: judges the trace
-    /// at this path, whatever its home and its caches are.
+    /// `observe FILE [--types two|four|any] [--stores hidden|listed] [--start empty|unknown] [--seen requesters|home]
+    /// [--early-grants] [--complete] [--context N] [--progress]`: judges the trace at this path, whatever its home and its
+    /// caches are.
     Observe {
         path: &'a str,
         /// Which types of credit it has; any where it isn't given.
         types: Types,
+        /// Which stores of processors it lists; some or none where it isn't given.
+        stores: StoreListing,
+        /// How it was taken; whole, and where flits are sent, where neither `--start` nor `--seen` is given.
+        log: Log,
         /// Whether its monitors stand at the requesters, where a grant may come before its RetryAck.
         early_grants: bool,
         /// Whether nothing may be open at its end.
@@ -184,6 +190,12 @@ const STORES: &str = "stores";
 /// The option that says that grants may come early.
 const EARLY_GRANTS: &str = "early-grants";
 
+/// The option that says what the lines of memory are before a trace.
+const START: &str = "start";
+
+/// The option that says where a trace's flits are seen.
+const SEEN: &str = "seen";
+
 /// The option that says that a check prints TAP.
 const TAP: &str = "tap";
 
@@ -301,6 +313,9 @@ fn observe_command<'a>(alloc: Global) -> Result<Command<'a>, AllocError>
     Command::new(alloc, OBSERVE)
         .arg(file(alloc))?
         .arg(option(alloc, TYPES))?
+        .arg(option(alloc, STORES))?
+        .arg(option(alloc, START))?
+        .arg(option(alloc, SEEN))?
         .arg(flag(alloc, EARLY_GRANTS))?
         .arg(flag(alloc, COMPLETE))?
         .arg(option(alloc, CONTEXT))?
@@ -488,6 +503,9 @@ fn read_observe<'a>(matches: &ArgMatches<'a>) -> Option<Job<'a>>
 {
     let path = text_of(matches, FILE)?;
     let types = watched_types(text_of(matches, TYPES))?;
+    let stores = stores(text_of(matches, STORES))?;
+    let start = start(text_of(matches, START))?;
+    let log = seen(text_of(matches, SEEN), start, stores)?;
     let early_grants = is_given(text_of(matches, EARLY_GRANTS));
     let complete = is_given(text_of(matches, COMPLETE));
     let context = context(text_of(matches, CONTEXT))?;
@@ -495,6 +513,8 @@ fn read_observe<'a>(matches: &ArgMatches<'a>) -> Option<Job<'a>>
     Some(Job::Observe {
         path,
         types,
+        stores,
+        log,
         early_grants,
         complete,
         context,

@@ -44,5 +44,5 @@ pub(crate) fn lacks_line(alloc: Global, bytes: &[u8], line: Line) -> Result<bool
     ensures { IfOk result (λ lacks. lacks ≡ lacks_line line (check_file_of bytes.now)) }
 {
     let script = read_checks(alloc, bytes)?;
-    Ok(line.0 >= script.header.lines)
+    Ok(line.0 >= script.header.lines())
 }

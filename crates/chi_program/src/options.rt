@@ -2,10 +2,11 @@
 
 ghost use Rattle.std.specs.Prelude.{◌≡◌, ◌==◌, Some, option_map};
 ghost use Rattle.std.specs.List.{position};
-ghost use Rattle.chi_program.specs.Options.{asked_address_of, commands_option, context_option, form_option, is_given, least_option, line_option, range_of, rows_option, seed_of, stores_option, turns_of, types_option, watched_types_option, wild_option};
+ghost use Rattle.chi_program.specs.Options.{asked_address_of, commands_option, context_option, form_option, is_given, least_option, line_option, range_of, rows_option, seed_of, home_log, seen_option, start_option, stores_option, turns_of, types_option, watched_types_option, wild_option};
 
 use chi_explain::StoreListing;
 use chi_flit::Line;
+use chi_observe::Log;
 use chi_resolution::Types;
 use chi_script::{is, number};
 use chi_trace::{Address, read_address};
@@ -158,6 +159,67 @@ fn types_in(word: &[u8]) -> Option<Types>
         Some(Types::Any)
     } else {
         None
+    }
+}
+
+/// How a trace is taken whose `--start` has this value: whole where it isn't given, and `None` where the value is neither
+/// `empty` nor `unknown`.
+/// Source: `docs/FORMATS.md`, "The program".
+pub fn start(value: Option<&str>) -> Option<Log>
+    ensures { result ≡ start_option (option_map (λ word. word.now) value.entry) }
+{
+    match value {
+        None => Some(Log::Whole),
+        Some(word) => start_in(word.as_bytes()),
+    }
+}
+
+/// The same of a start of this name.
+fn start_in(word: &[u8]) -> Option<Log>
+    ensures { result ≡ start_option (Some word.now) }
+{
+    if is(word, "empty") {
+        Some(Log::Whole)
+    } else if is(word, "unknown") {
+        Some(Log::Tail)
+    } else {
+        None
+    }
+}
+
+/// How a trace is taken that starts so and lists stores so, and whose `--seen` has this value: where flits are sent where it
+/// isn't given, and `None` where the value is neither `requesters` nor `home`, and of a log that is taken at the home and
+/// begins in the middle or lists all stores.
+/// Source: `docs/FORMATS.md`, "The program".
+pub fn seen(value: Option<&str>, start: Log, stores: StoreListing) -> Option<Log>
+    ensures { result ≡ seen_option (option_map (λ word. word.now) value.entry) start stores }
+{
+    match value {
+        None => Some(start),
+        Some(word) => seen_in(word.as_bytes(), start, stores),
+    }
+}
+
+/// The same of a place of this name.
+fn seen_in(word: &[u8], start: Log, stores: StoreListing) -> Option<Log>
+    ensures { result ≡ seen_option (Some word.now) start stores }
+{
+    if is(word, "requesters") {
+        Some(start)
+    } else if is(word, "home") {
+        home_log(start, stores)
+    } else {
+        None
+    }
+}
+
+/// A log that is taken at the home: none that begins in the middle, or lists all stores.
+fn home_log(start: Log, stores: StoreListing) -> Option<Log>
+    ensures { result ≡ home_log start stores }
+{
+    match (start, stores) {
+        (Log::Whole, StoreListing::Partial) => Some(Log::Home),
+        _ => None,
     }
 }
 

@@ -18,7 +18,7 @@ use crate::progress::Ticker;
 use crate::runs::{chart_file, part_of, replay_file, storm_file};
 use crate::stops::{End, Stop};
 use crate::suites::check_files;
-use crate::traces::{explain_file, observe_file, types_watched};
+use crate::traces::{explain_file, observe_file, stores_watched, types_watched};
 use crate::usages::{usage, version};
 use chi_coverage::{CoverForm, CoverShape, merge};
 use chi_observe::WatchOptions;
@@ -104,6 +104,8 @@ fn work<R: Files + AllocGlobal + Print + Eprint + Threads + Wait + Clock + Sync>
         Job::Observe {
             path,
             types,
+            stores,
+            log,
             early_grants,
             complete,
             context,
@@ -112,6 +114,8 @@ fn work<R: Files + AllocGlobal + Print + Eprint + Threads + Wait + Clock + Sync>
             let options = WatchOptions {
                 types: types_watched(types),
                 early_grants,
+                stores: stores_watched(stores),
+                log,
             };
             let mut ticker = Ticker::new(rt, progress && is_terminal);
             Ok(observe_file(rt, path, options, complete, context, &mut ticker)?)

@@ -2,11 +2,13 @@
 
 ghost use Rattle.std.specs.Prelude.{◌≡◌, Ok};
 ghost use Rattle.chi_program.specs.Stops.{explain_end, observe_end};
-ghost use Rattle.chi_program.specs.Watches.{types_watched};
+ghost use Rattle.chi_program.specs.Watches.{stores_watched, types_watched};
 
 use crate::inputs::{file_of, tell_unread};
 use crate::stops::End;
+use chi_explain::StoreListing;
 use chi_observe::{CreditTypes, ObserveOutcome, Progress, WatchOptions, observe};
+use chi_observer::Stores;
 use chi_resolution::{Options, Types};
 use chi_script::{Fault, FileInput, StandardOutput};
 use chi_verdict::{Asked, TraceOutcome, explain};
@@ -58,6 +60,16 @@ pub(crate) fn types_watched(types: Types) -> CreditTypes
         Types::Two => CreditTypes::Two,
         Types::Four => CreditTypes::Four,
         Types::Any => CreditTypes::Any,
+    }
+}
+
+/// Whether each store of a processor is in the trace, as a watch is given it.
+pub(crate) fn stores_watched(stores: StoreListing) -> Stores
+    ensures { result ≡ stores_watched stores }
+{
+    match stores {
+        StoreListing::Partial => Stores::Hidden,
+        StoreListing::Complete => Stores::Listed,
     }
 }
 

@@ -95,7 +95,7 @@ fn all_usage() -> &'static str
      chihome chart FILE [--line L] [--rows A-B]\n\
      chihome storm FILE [--seed N] [--turns N]\n\
      chihome explain FILE [--types two|four|any] [--stores hidden|listed] [--early-grants] [--complete] [--line ADDR]\n\
-     chihome observe FILE [--types two|four|any] [--early-grants] [--complete] [--context N] [--progress]\n\
+     chihome observe FILE [--types two|four|any] [--stores hidden|listed] [--start empty|unknown] [--seen requesters|home] [--early-grants] [--complete] [--context N] [--progress]\n\
      chihome cover FILE.. [--missing] [--json] [--tsv] [--merge] [--at-least N]\n\
      chihome draw [--seed N] --commands M [--wild P] [--weights FILE] [--kinds LIST] [--drain] HEADER\n\
      chihome usage [COMMAND]\n\
@@ -162,9 +162,12 @@ fn explain_usage() -> &'static str
 fn observe_usage() -> &'static str
     ensures { result.now ≡ observe_lines }
 {
-    "chihome observe FILE [--types two|four|any] [--early-grants] [--complete] [--context N] [--progress]\n\
+    "chihome observe FILE [--types two|four|any] [--stores hidden|listed] [--start empty|unknown] [--seen requesters|home] [--early-grants] [--complete] [--context N] [--progress]\n\
      Judges a trace, whatever its home and its caches are.\n\
      \x20 --types T            its types of credit; any where it isn't given\n\
+     \x20 --stores S           hidden where not all stores are listed, as where it isn't given; listed where they are\n\
+     \x20 --start S            what its lines are before it: empty, or unknown where it is cut out of a longer one\n\
+     \x20 --seen S             where a cache's flits are seen: requesters, as where it isn't given, or home, where it receives them\n\
      \x20 --early-grants       a grant may come before its RetryAck\n\
      \x20 --complete           nothing may be open at its end\n\
      \x20 --context N          with a fault the last N flits of its line, 1 to 64\n\

@@ -27,9 +27,9 @@ leads_first config all z y written is none =
     (subst (λ (ports : List PortView). LeadsOn config all [] (machine_at_start config) ports all) (sym (opening_views config z y is)) (leads_from config all)))
 
 -- a reply that was played, and printed
-pub says_reply : (t : Turn) (ports : List PortView) (m' : Machine) (ports' : List PortView) (written written' : List ℕ) (reply : Reply)
-    → (answers : List TurnAnswer) × Plays t ports answers reply m' ports' → written' ≡ written ++ (reply_text m'.home reply ++ (10 ∷ [])) → Says t ports m' ports' written written'
-says_reply t ports m' ports' written written' reply plays bytes = (plays.0, reply, plays.1, bytes)
+pub says_told : (t : Turn) (ports : List PortView) (m' : Machine) (ports' : List PortView) (written written' : List ℕ)
+    → (reply : Reply) × ((answers : List TurnAnswer) × Plays t ports answers reply m' ports') × (written' ≡ written ++ (reply_text m'.home reply ++ (10 ∷ []))) → Says t ports m' ports' written written'
+says_told t ports m' ports' written written' told = (told.1.0, told.0, told.1.1, told.2)
 
 joined_line : (written said rest : List ℕ) → written ++ (said ++ (10 ∷ rest)) ≡ (written ++ (said ++ (10 ∷ []))) ++ rest
 joined_line written said rest = ap (λ (l : List ℕ). written ++ l) (sym (append_assoc said (10 ∷ []) rest)) ∙ sym (append_assoc written (said ++ (10 ∷ [])) rest)

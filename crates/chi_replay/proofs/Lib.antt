@@ -9,7 +9,6 @@ pub mod OwnSteps
 pub mod Turned
 pub mod Credited
 pub mod Openings
-pub mod Fits
 pub mod Enough
 pub mod Lines
 pub mod PlainReplies

@@ -1,24 +1,22 @@
 -- The text of the lines behind a header is that of the file.
-use Rattle.std.proofs.Common.{◌≡◌, ℕ, List, Result, Ok, Err, IfOk, IfErr, subst}
-use Rattle.chi_script.specs.declared.headers.Header.{Header}
+use Rattle.std.proofs.Common.{◌≡◌, ℕ, List, Result, Ok, Err, IfOk, IfErr}
 use Rattle.chi_script.specs.declared.faults.Fault.{Fault}
 use Rattle.chi_script.specs.Faults.{Fails}
 use Rattle.chi_script.specs.Files.{commands_of, file_of, lines_of, with_header}
-use Rattle.chi_script.specs.Headers.{node_sizes}
 use Rattle.chi_script.proofs.FileLemmas.{bad_commands, good_commands}
 use Rattle.chi_slice.specs.Words.{Sizes}
 use Rattle.chi_replay.specs.Texts.{IsTextOfLines}
 use Rattle.chi_replay.specs.Replays.{IsTextOf}
 
-text_of_file : (file lines : List ℕ) (header : Header) (bytes : List ℕ) → file_of file ≡ with_header header (commands_of 2 (lines_of lines)) → IsTextOfLines (node_sizes header) lines bytes → IsTextOf file bytes
+text_of_file : (file lines : List ℕ) (header : Sizes) (bytes : List ℕ) → file_of file ≡ with_header header (commands_of 2 (lines_of lines)) → IsTextOfLines header lines bytes → IsTextOf file bytes
 text_of_file file lines header bytes e is = record { header = header; commands = is.commands; good = good_commands file lines header is.commands e is.good; text = is.text }
 
-pub text_behind : {T : Type 0} (file lines : List ℕ) (header : Header) (config : Sizes) (bytes_of : T → List ℕ) (result : Result T Fault) → file_of file ≡ with_header header (commands_of 2 (lines_of lines)) → config ≡ node_sizes header
-    → IfOk result (λ text. IsTextOfLines config lines (bytes_of text)) → IfOk result (λ text. IsTextOf file (bytes_of text))
-text_behind file lines header config bytes_of (Ok text) e sizes ok = text_of_file file lines header (bytes_of text) e (subst (λ (c : Sizes). IsTextOfLines c lines (bytes_of text)) sizes ok)
-text_behind file lines header config bytes_of (Err fault) e sizes ok = ok
+pub text_behind : {T : Type 0} (file lines : List ℕ) (header : Sizes) (bytes_of : T → List ℕ) (result : Result T Fault) → file_of file ≡ with_header header (commands_of 2 (lines_of lines))
+    → IfOk result (λ text. IsTextOfLines header lines (bytes_of text)) → IfOk result (λ text. IsTextOf file (bytes_of text))
+text_behind file lines header bytes_of (Ok text) e ok = text_of_file file lines header (bytes_of text) e ok
+text_behind file lines header bytes_of (Err fault) e ok = ok
 
-pub fault_behind : {T : Type 0} (file lines : List ℕ) (header : Header) (result : Result T Fault) → file_of file ≡ with_header header (commands_of 2 (lines_of lines))
+pub fault_behind : {T : Type 0} (file lines : List ℕ) (header : Sizes) (result : Result T Fault) → file_of file ≡ with_header header (commands_of 2 (lines_of lines))
     → IfErr result (λ fault. Fails fault (commands_of 2 (lines_of lines))) → IfErr result (λ fault. Fails fault (file_of file))
 fault_behind file lines header (Ok text) e err = err
 fault_behind file lines header (Err fault) e err = bad_commands fault file lines header e err

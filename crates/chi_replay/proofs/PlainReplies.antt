@@ -39,7 +39,7 @@ use Rattle.chi_replay.specs.declared.replies.Reply.{Reply}
 use Rattle.chi_replay.specs.declared.replies.Reply.TheVariants.{Done, Value, Admitted, Retry, Completed, Paid, Idle, Credits, Refused}
 use Rattle.chi_replay.specs.declared.replies.Reply.TheVariants as replies
 use Rattle.chi_replay.specs.declared.totals.NodeTotals.{NodeTotals}
-use Rattle.chi_replay.specs.Replies.{agents_text, audit_text, copy_text, counts_text, flits_text, joined_texts, looked_text, members, messages_in, messages_text, refused_text, released_text, reply_text, serving_text, shown_text, spaced_texts, storm_totals_text, type_count, verdict_text, yes_no}
+use Rattle.chi_replay.specs.Replies.{agents_text, audit_text, copy_text, counts_text, flits_text, joined_texts, looked_text, members, messages_in, messages_text, refused_text, released_text, reply_text, serving_text, shown_text, spaced_texts, totals_text, type_count, verdict_text, yes_no}
 use Rattle.chi_script.proofs.LackLemmas.{chained, decimal_lacks, lacks}
 
 -- a text without a line end
@@ -198,13 +198,13 @@ counts profile all = spaced_plain decimal number (take (type_count profile) all)
 credits : (c : SeenCredits) → IsPlain (codes "ok credits" ++ counts_text c.profile c.counts)
 credits c = behind (codes "ok credits") refl (counts c.profile c.counts)
 
-totals : (t : NodeTotals) → IsPlain (codes "ok " ++ storm_totals_text t)
+totals : (t : NodeTotals) → IsPlain (codes "ok " ++ totals_text t)
 totals t =
     behind (codes "ok ") refl
-    (behind (codes "free") refl (both (counts t.profile t.free)
-    (behind (codes " hand") refl (both (counts t.profile t.hand)
-    (behind (codes " promised") refl (both (counts t.profile t.promised)
-    (behind (codes " owed") refl (counts t.profile t.owed))))))))
+    (behind (codes "free") refl (both (counts t.profile t.counts.free)
+    (behind (codes " hand") refl (both (counts t.profile t.counts.hand)
+    (behind (codes " promised") refl (both (counts t.profile t.counts.promised)
+    (behind (codes " owed") refl (counts t.profile t.counts.owed))))))))
 
 verdict : (b : Bool) → IsPlain (verdict_text b)
 verdict true = word refl

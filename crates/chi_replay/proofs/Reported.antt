@@ -2,11 +2,9 @@
 use Rattle.std.proofs.Common.{◌≡◌, ◌↔◌, ℕ, ◌+◌, ◌<◌, Bool, IsTrue, List, [], ◌∷◌, ◌++◌, Option, Some, None, Result, Ok, Err, IfOk, IfSome, length, map, refl, sym, ap, subst, ◌∙◌, take, arith, length-append}
 use Rattle.std.proofs.lemmas.List.{length-map, nil_from_length}
 use Rattle.std.specs.List.{flat_map}
-use Rattle.chi_script.specs.Headers.{node_sizes}
 use Rattle.chi_script.specs.declared.commands.Command.{Command}
 use Rattle.chi_slice.specs.Words.{Sizes}
 use Rattle.chi_script.specs.declared.faults.Fault.{Fault}
-use Rattle.chi_script.specs.declared.headers.Header.{Header}
 use Rattle.chi_script.specs.Files.{lines_of}
 use Rattle.chi_replay.specs.Texts.{IsText, text}
 use Rattle.chi_replay.specs.Turns.{machine_at_start}
@@ -23,25 +21,24 @@ pub same_commands : (checks : List Check) → map (λ check. check.command) chec
 same_commands [] = refl
 same_commands (check ∷ checks) = ap (λ (cs : List Command). check.command ∷ cs) (same_commands checks)
 
-lines_are : (header : Header) (checks : List CheckLine) (bytes : List ℕ) (is : IsText (node_sizes header) (commands_in checks) bytes) → lines_of bytes ≡ answers_in header checks is.answers ++ [] ∷ []
-lines_are header checks bytes is = ap lines_of is.same ∙ are_lines (machine_at_start (node_sizes header)) (commands_in checks) is.answers
+lines_are : (header : Sizes) (checks : List CheckLine) (bytes : List ℕ) (is : IsText header (commands_in checks) bytes) → lines_of bytes ≡ answers_in header checks is.answers ++ [] ∷ []
+lines_are header checks bytes is = ap lines_of is.same ∙ are_lines (machine_at_start header) (commands_in checks) is.answers
 
-as_many : (header : Header) (checks : List CheckLine) (bytes : List ℕ) (is : IsText (node_sizes header) (commands_in checks) bytes) → length (answers_in header checks is.answers) ≡ length checks
-as_many header checks bytes is = one_each (machine_at_start (node_sizes header)) (commands_in checks) is.answers ∙ length-map checks (λ (check : CheckLine). check.command)
+as_many : (header : Sizes) (checks : List CheckLine) (bytes : List ℕ) (is : IsText header (commands_in checks) bytes) → length (answers_in header checks is.answers) ≡ length checks
+as_many header checks bytes is = one_each (machine_at_start header) (commands_in checks) is.answers ∙ length-map checks (λ (check : CheckLine). check.command)
 
 -- the text of a run of these commands
-pub of_run : (header : Header) (config : Sizes) (checks : List CheckLine) (commands lent : List Command) (bytes : List ℕ) → config ≡ node_sizes header → commands ≡ commands_in checks → lent ≡ commands → IsText config lent bytes → IsText (node_sizes header) (commands_in checks) bytes
-of_run header config checks commands lent bytes sizes are same is =
-    subst (λ (s : Sizes). IsText s (commands_in checks) bytes) sizes (subst (λ (cs : List Command). IsText config cs bytes) (same ∙ are) is)
+pub of_run : (header : Sizes) (checks : List CheckLine) (commands lent : List Command) (bytes : List ℕ) → commands ≡ commands_in checks → lent ≡ commands → IsText header lent bytes → IsText header (commands_in checks) bytes
+of_run header checks commands lent bytes are same is = subst (λ (cs : List Command). IsText header cs bytes) (same ∙ are) is
 
 -- a text has a line for each check, and one behind them
-pub lines_enough : (header : Header) (checks : List CheckLine) (bytes : List ℕ) → IsText (node_sizes header) (commands_in checks) bytes → length checks < length (lines_of bytes)
+pub lines_enough : (header : Sizes) (checks : List CheckLine) (bytes : List ℕ) → IsText header (commands_in checks) bytes → length checks < length (lines_of bytes)
 lines_enough header checks bytes is =
     let count : length (lines_of bytes) ≡ length (answers_in header checks is.answers) + 1 = ap length (lines_are header checks bytes is) ∙ length-append (answers_in header checks is.answers) ([] ∷ []) in
     omega (arith, count, as_many header checks bytes is)
 
 -- what was found of its lines is what the answers are beside the wanted ones
-reported : (header : Header) (checks : List CheckLine) (bytes front lines : List ℕ) (wanted differ : ℕ) → IsText (node_sizes header) (commands_in checks) bytes
+reported : (header : Sizes) (checks : List CheckLine) (bytes front lines : List ℕ) (wanted differ : ℕ) → IsText header (commands_in checks) bytes
     → lines ≡ differing_text front checks (lines_of bytes) → wanted ≡ length (wanted_in checks) → differ ≡ length (differing checks (lines_of bytes)) → ComparesChecks header checks front lines wanted differ
 reported header checks bytes front lines wanted differ is found all some =
     let answers = answers_in header checks is.answers in
@@ -59,8 +56,8 @@ reported header checks bytes front lines wanted differ is found all some =
 pub lent_enough : (lent checks : List Check) (bytes text : List ℕ) → lent ≡ checks → bytes ≡ text → length (map line_of_check checks) < length (lines_of text) → length lent < length (lines_of bytes)
 lent_enough lent checks bytes text same is enough = omega (arith, ap length same, length-map checks line_of_check, ap (λ (l : List ℕ). length (lines_of l)) is, enough)
 
-pub lent_reported : {T E : Type 0} (lines_in : T → List ℕ) (wanted_by differ_by : T → ℕ) (result : Result T E) (header : Header) (front : List ℕ) (lent checks : List Check) (bytes text : List ℕ) → lent ≡ checks → bytes ≡ text
-    → IsText (node_sizes header) (commands_in (map line_of_check checks)) text
+pub lent_reported : {T E : Type 0} (lines_in : T → List ℕ) (wanted_by differ_by : T → ℕ) (result : Result T E) (header : Sizes) (front : List ℕ) (lent checks : List Check) (bytes text : List ℕ) → lent ≡ checks → bytes ≡ text
+    → IsText header (commands_in (map line_of_check checks)) text
     → IfOk result (λ found. lines_in found ≡ differing_text front (map line_of_check lent) (lines_of bytes)) → IfOk result (λ found. wanted_by found ≡ length (wanted_in (map line_of_check lent)))
     → IfOk result (λ found. differ_by found ≡ length (differing (map line_of_check lent) (lines_of bytes)))
     → IfOk result (λ found. ComparesChecks header (map line_of_check checks) front (lines_in found) (wanted_by found) (differ_by found))
@@ -71,7 +68,7 @@ lent_reported lines_in wanted_by differ_by (Ok found) header front lent checks b
 lent_reported lines_in wanted_by differ_by (Err lack) header front lent checks bytes text same is replayed lines wanted differ = lines
 
 -- what was found of a good file's checks is what was found of the file
-pub of_file : (file front lines : List ℕ) (header : Header) (checks : List CheckLine) (wanted differ : ℕ) → check_file_of file ≡ Ok (header, checks) → ComparesChecks header checks front lines wanted differ → IsComparison file front lines wanted differ
+pub of_file : (file front lines : List ℕ) (header : Sizes) (checks : List CheckLine) (wanted differ : ℕ) → check_file_of file ≡ Ok (header, checks) → ComparesChecks header checks front lines wanted differ → IsComparison file front lines wanted differ
 of_file file front lines header checks wanted differ good found = record {
   checks = checks;
   answers = answers_in header checks found.replayed.answers;

@@ -38,7 +38,7 @@ use Rattle.chi_replay.specs.declared.replies.Reply.TheVariants as replies
 use Rattle.chi_node.specs.Outstanding.{Outstanding, outstanding_of, seen_counts}
 use Rattle.chi_replay.specs.Ports.{PortClaims, PortOwes, PortReleases, PortSpends}
 use Rattle.chi_replay.specs.Turns.{Claimed, Ends, Glanced, Judged, Machine, Owed, Spent, Turn, Went, act_turn, act_refusal, admitted_in, arrive, arriving, turn_of_attempt, by_type, completing, turn_after_action, less_one, or_refused, requester_after_action, requester_after_end, requester_in, with_action, with_arrival, with_end, with_state, turn}
-use Rattle.chi_replay.specs.NodeReplies.{arrival_reply, done_reply, step_reply, totals_told}
+use Rattle.chi_replay.specs.NodeReplies.{arrival_reply, done_reply, step_reply}
 use Rattle.chi_replay.specs.Session.{PlaysOn, machine_of, ports_of}
 use Rattle.chi_node.proofs.Acts.{claim_view, release_view, retry_view}
 use Rattle.chi_replay.proofs.Machines.{at_port, at_port_again, machine_after, outstanding_is, ports_after, ports_same, requester_at}
@@ -247,10 +247,10 @@ counts_typed counts four =
     ∙ (ap (λ (n : List ℕ). record counts { free = by_type (typed counts.free); hand = by_type (typed counts.hand); promised = n }) (four_typed counts.promised four.promised)
     ∙ ap (λ (n : List ℕ). record (typed_counts counts) { owed = n }) (four_typed counts.owed four.owed)))
 
-pub glance_plays : (y : SystemState) (counts : Counts) (profile : Profile) → AreFours counts → profile ≡ y.home.config.profile → PlaysOn (turn (machine_of y) commands.Totals) y y (replies.Totals (totals_told counts profile))
+pub glance_plays : (y : SystemState) (counts : Counts) (profile : Profile) → AreFours counts → profile ≡ y.home.config.profile → PlaysOn (turn (machine_of y) commands.Totals) y y (replies.Totals (record { counts = counts; profile = profile }))
 glance_plays y counts profile four h = (
   Glanced (typed counts.free) (typed counts.hand) (typed counts.promised) (typed counts.owed) ∷ [],
-  (ports_of y, refl, (ap (λ (p : Profile). replies.Totals (totals_told counts p)) h ∙ ap (λ (n : Counts). replies.Totals (totals_told n y.home.config.profile)) (counts_typed counts four), refl, refl)),
+  (ports_of y, refl, (ap (λ (p : Profile). replies.Totals (record { counts = counts; profile = p })) h ∙ ap (λ (n : Counts). replies.Totals (record { counts = n; profile = y.home.config.profile })) (counts_typed counts four), refl, refl)),
 )
 
 -- an audit: the loads, the stores, and the verdict on the slices, where the headline holds

@@ -3,13 +3,11 @@ use Rattle.std.specs.Prelude.{Option, Some, None, Result, Ok, Err}
 use Rattle.chi_flit.specs.declared.action.Effect.{Effect}
 use Rattle.chi_flit.specs.declared.action.Effect.TheVariants as effects
 use Rattle.chi_flit.specs.declared.refusal.Refusal.{Refusal}
-use Rattle.chi_flit.specs.declared.credit.Profile.{Profile}
-use Rattle.chi_node.specs.Words.{Released, Counts}
+use Rattle.chi_node.specs.Words.{Released}
 use Rattle.chi_node.specs.declared.answers.Arrived.{Arrived}
 use Rattle.chi_node.specs.declared.answers.Arrived.TheVariants as arrivals
 use Rattle.chi_node.specs.declared.answers.Stepped.{Stepped}
 use Rattle.chi_replay.specs.declared.replies.Reply.{Reply}
-use Rattle.chi_replay.specs.declared.totals.NodeTotals.{NodeTotals}
 use Rattle.chi_replay.specs.declared.replies.Reply.TheVariants.{Admitted, Completed, Done, Idle, Paid, Refused, Retry, Value}
 
 abbrev pub arrival_reply : Result Arrived Refusal → Reply
@@ -36,7 +34,3 @@ abbrev pub tend_reply : Result (Option Released) Refusal → Reply
 tend_reply (Ok (Some released)) = Paid released
 tend_reply (Ok None) = Idle
 tend_reply (Err refusal) = Refused refusal
-
--- each number that a glance shows is told under its own name
-abbrev pub totals_told : Counts → Profile → NodeTotals
-totals_told counts profile = record { free = counts.free; hand = counts.hand; promised = counts.promised; owed = counts.owed; profile = profile }

@@ -1,33 +1,20 @@
 -- What a replay writes, and what its faults say (docs/FORMATS.md, "Replay files" and "The program").
 use Rattle.std.specs.Prelude.{◌≡◌, ◌≢◌, ℕ, ◌+◌, List, Option, Result, Ok, Err, IfErr, IfSome, IsErrOf, ◌⊎◌}
 use Rattle.std.specs.Io.KnownBytes.{Appends, Keeps}
-use Rattle.std.specs.List.{slice_index_or}
-use Rattle.chi_flit.specs.declared.credit.Profile.{Profile}
-use Rattle.chi_flit.specs.declared.credit.Profile.TheVariants.{Two, Four}
-use Rattle.chi_slice.specs.Words.{four_types, two_types, Sizes}
-use Rattle.chi_script.specs.declared.headers.Header.{Header}
+use Rattle.chi_slice.specs.Words.{Sizes}
 use Rattle.chi_script.specs.declared.commands.Command.{Command}
 use Rattle.chi_script.specs.declared.faults.Fault.{Fault}
 use Rattle.chi_script.specs.declared.faults.Fault.TheVariants.{NoMemory, Read, Write}
 use Rattle.chi_script.specs.Files.{file_of}
-use Rattle.chi_script.specs.Headers.{node_sizes}
 use Rattle.chi_script.specs.Devices.{AppendsFront}
 use Rattle.chi_replay.specs.Texts.{IsText}
 
--- the sizes of a header, as a node of the profile is made
-abbrev pub sizes_for : Profile → Header → Sizes
-sizes_for Two header = two_types header.agents header.lines header.slices (slice_index_or header.entries 0 0) (slice_index_or header.entries 1 0) header.journal
-sizes_for Four header = four_types header.agents header.lines header.slices header.entries header.journal
-
-abbrev pub read_sizes : Header → Sizes
-read_sizes header = sizes_for header.profile header
-
 -- a good file, and the text of its commands under answers that the tracker may give
 pub record IsTextOf (file bytes : List ℕ) : Type 0 where
-  pub header : Header
+  pub header : Sizes
   pub commands : List Command
   pub good : file_of file ≡ Ok (header, commands)
-  pub text : IsText (node_sizes header) commands bytes
+  pub text : IsText header commands bytes
 
 -- of the file that the input has, where its bytes are known: one such text was written, no more
 abbrev pub WritesText : Option (List ℕ) → Option (List ℕ) → Option (List ℕ) → Type 0

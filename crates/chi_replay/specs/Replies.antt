@@ -109,12 +109,12 @@ abbrev pub counts_text : Profile → List ℕ → List ℕ
 counts_text profile counts = spaced_texts decimal (take (type_count profile) counts)
 
 -- the entries by type, and the owed credits
-abbrev pub storm_totals_text : NodeTotals → List ℕ
-storm_totals_text totals =
-    codes "free" ++ (counts_text totals.profile totals.free
-    ++ (codes " hand" ++ (counts_text totals.profile totals.hand
-    ++ (codes " promised" ++ (counts_text totals.profile totals.promised
-    ++ (codes " owed" ++ counts_text totals.profile totals.owed))))))
+abbrev pub totals_text : NodeTotals → List ℕ
+totals_text totals =
+    codes "free" ++ (counts_text totals.profile totals.counts.free
+    ++ (codes " hand" ++ (counts_text totals.profile totals.counts.hand
+    ++ (codes " promised" ++ (counts_text totals.profile totals.counts.promised
+    ++ (codes " owed" ++ counts_text totals.profile totals.counts.owed))))))
 
 -- what an audit finds
 abbrev pub verdict_text : Bool → List ℕ
@@ -140,7 +140,7 @@ reply_text home (replies.Completed slot released) = codes "ok completed " ++ (de
 reply_text home (replies.Paid released) = codes "ok " ++ released_text released
 reply_text home replies.Idle = codes "ok idle"
 reply_text home (replies.Credits credits) = codes "ok credits" ++ counts_text credits.profile credits.counts
-reply_text home (replies.Totals totals) = codes "ok " ++ storm_totals_text totals
+reply_text home (replies.Totals totals) = codes "ok " ++ totals_text totals
 reply_text home (replies.Audit audit) = audit_text audit
 reply_text home (replies.Line l) = looked_text (node_view_refusal home l.0) (shown_text home.config.agents (line_view (node_line home l.0) (node_last home l.0)))
 reply_text home (replies.Flits agent l) = looked_text (node_flits_refusal home agent.0 l.0) (flits_text (cells_of (node_line home l.0) agent.0))

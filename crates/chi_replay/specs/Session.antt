@@ -24,3 +24,7 @@ PlaysOn played y y' reply = (answers : List TurnAnswer) × Plays played (ports_o
 -- so was the turn of a command
 abbrev pub PlaysTurn : Command → SystemState → SystemState → Reply → Type 0
 PlaysTurn command y y' reply = PlaysOn (turn (machine_of y) command) y y' reply
+
+-- and what came of it was told
+abbrev pub TellsTurn : Command → SystemState → SystemState → (Reply → Type 0) → Type 0
+TellsTurn command y y' IsTold = (reply : Reply) × PlaysTurn command y y' reply × IsTold reply

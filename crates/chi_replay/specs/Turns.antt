@@ -216,7 +216,7 @@ by_type number = number T0 ∷ number T1 ∷ number T2 ∷ number T3 ∷ []
 -- numbers of entries and of owed credits, on a node of the profile
 abbrev pub totals_of : Profile → (free hand promised owed : CreditType → ℕ) → NodeTotals
 totals_of profile free hand promised owed =
-    record { free = by_type free; hand = by_type hand; promised = by_type promised; owed = by_type owed; profile = profile }
+    record { counts = record { free = by_type free; hand = by_type hand; promised = by_type promised; owed = by_type owed }; profile = profile }
 
 abbrev pub turn_after_glance : Machine → TurnAnswer → Turn
 turn_after_glance m (Glanced free hand promised owed) = Ends (replies.Totals (totals_of m.home.config.profile free hand promised owed)) m

@@ -9,7 +9,6 @@ ghost use Rattle.chi_script.specs.CheckFiles.{check_file_of};
 ghost use Rattle.chi_replay.specs.Reports.{check_summary};
 ghost use Rattle.chi_replay.specs.Checks.{ComparesChecks, IsCheckReport, IsComparison, WritesReportFront, WritesReport, commands_in};
 
-use crate::replays::config_of;
 use crate::reports::{Comparison, compare, write_summary};
 use crate::runs::run;
 use chi_flit::NoMemory;
@@ -38,9 +37,8 @@ fn compare_script<A: Allocator + Copy>(
         (λ found. ComparesChecks script.now.header (map line_of_check script.now.checks.items)
         front.now found.lines.items found.wanted found.differing) }
 {
-    let config = config_of(&script.header);
     let commands = commands_of(alloc, &script.checks)?;
-    let text = run(alloc, &config, &commands)?;
+    let text = run(alloc, &script.header, &commands)?;
     compare(alloc, front, &script.checks, text.as_bytes())
 }
 

@@ -30,12 +30,28 @@ const CHANNELS: [Channel; 6] = [
     Channel::DatUp,
 ];
 
+impl<'a> InFlight<'a> {
+    /// Whether nothing is in flight.
+    /// Source: `docs/FORMATS.md`, "Replay files".
+    pub fn is_empty(&self) -> bool
+        ensures { result ≡ has_none (messages_in self.now.0.now) }
+    {
+        let cells = self.0;
+        cells.req.is_none()
+            && cells.snp.is_none()
+            && cells.rsp_down.is_none()
+            && cells.dat_down.is_none()
+            && cells.rsp_up.is_none()
+            && cells.dat_up.is_none()
+    }
+}
+
 impl<'a> fmt::Display for InFlight<'a> {
     ghost output = { λ flits. Some (flits_text flits.0.now) };
 
     fn fmt<W: fmt::Write>(&self, f: &mut fmt::Formatter<W>) -> fmt::Result {
         write!(f, "ok")?;
-        if is_empty(self.0) {
+        if self.is_empty() {
             return write!(f, " none");
         }
         for channel in CHANNELS {
@@ -63,16 +79,4 @@ impl fmt::Display for FlitText {
             None => Ok(()),
         }
     }
-}
-
-/// Whether nothing is in flight.
-fn is_empty(cells: &Cells) -> bool
-    ensures { result ≡ has_none (messages_in cells.now) }
-{
-    cells.req.is_none()
-        && cells.snp.is_none()
-        && cells.rsp_down.is_none()
-        && cells.dat_down.is_none()
-        && cells.rsp_up.is_none()
-        && cells.dat_up.is_none()
 }

@@ -1,12 +1,11 @@
 //! What is answered to each call of a node.
 
 ghost use Rattle.std.specs.Prelude.{◌≡◌};
-ghost use Rattle.chi_replay.specs.NodeReplies.{arrival_reply, give_back_reply, step_reply, tend_reply, totals_told};
+ghost use Rattle.chi_replay.specs.NodeReplies.{arrival_reply, give_back_reply, step_reply, tend_reply};
 
 use crate::replies::Reply;
-use crate::totals::NodeTotals;
-use chi_flit::{Effect, Profile, Refusal};
-use chi_node::{Arrived, Counts, Released, Stepped};
+use chi_flit::{Effect, Refusal};
+use chi_node::{Arrived, Released, Stepped};
 
 /// What is answered to an arrival.
 pub(crate) fn arrival_reply(arrived: Result<Arrived, Refusal>) -> Reply
@@ -59,22 +58,5 @@ pub(crate) fn tend_reply(tended: Result<Option<Released>, Refusal>) -> Reply
         Ok(Some(released)) => Reply::Paid(released),
         Ok(None) => Reply::Idle,
         Err(refusal) => Reply::Refused(refusal),
-    }
-}
-
-/// What is told of a glance: each number under its own name, of a node of the profile.
-pub fn totals_told(counts: Counts, profile: Profile) -> NodeTotals
-    ensures { result ≡ totals_told counts profile }
-{
-    let free = counts.free;
-    let hand = counts.hand;
-    let promised = counts.promised;
-    let owed = counts.owed;
-    NodeTotals {
-        free,
-        hand,
-        promised,
-        owed,
-        profile,
     }
 }

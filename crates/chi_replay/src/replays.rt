@@ -1,52 +1,27 @@
 //! From the bytes of a file to the text that is printed.
 
-ghost use Rattle.std.specs.Prelude.{◌≡◌, ◌≢◌, ◌+◌, ◌^◌, ◌<◌, IfOk, IfErr, IfSome, OnOk, string_bytes, true};
+ghost use Rattle.std.specs.Prelude.{◌≡◌, ◌≢◌, ◌+◌, ◌^◌, ◌<◌, IfOk, IfErr, IfSome, OnOk, string_bytes};
 ghost use Rattle.std.specs.Io.KnownBytes.{Keeps};
-ghost use Rattle.chi_script.specs.Headers.{is_in_limits, node_sizes};
-ghost use Rattle.chi_slice.specs.Words.{config_if};
 ghost use Rattle.chi_script.specs.Faults.{Fails};
 ghost use Rattle.chi_script.specs.Files.{commands_of, file_of, lines_of};
 ghost use Rattle.chi_replay.specs.Texts.{IsTextOfLines};
-ghost use Rattle.chi_replay.specs.Replays.{AtWrite, IsTextOf, KeepsAtFault, NoText, NoTextAt, RefusesFault, WritesFront, WritesText, read_sizes};
+ghost use Rattle.chi_replay.specs.Replays.{AtWrite, IsTextOf, KeepsAtFault, NoText, NoTextAt, RefusesFault, WritesFront, WritesText};
 
 use crate::runs::run_lines;
-use chi_flit::Profile;
-use chi_script::{Failed, Fault, Header, Input, Output, check_lines, read_all, read_head};
+use chi_script::{Failed, Fault, Input, Output, check_lines, read_all, read_head};
 use chi_slice::Config;
 use std::alloc::Allocator;
-
-/// The sizes of a header, where a node may have them.
-fn sizes_in(header: &Header) -> Option<Config>
-    ensures { result ≡ config_if (read_sizes header.now) }
-{
-    let (agents, lines, slices) = (header.agents, header.lines, header.slices);
-    let [t0, t1, _, _] = header.entries;
-    match header.profile {
-        Profile::Two => Config::new(agents, lines, slices, t0, t1, header.journal),
-        Profile::Four => Config::four(agents, lines, slices, header.entries, header.journal),
-    }
-}
-
-/// The sizes of a header, which are in the limits.
-/// Source: `docs/PROTOCOL.md`, "Limits".
-pub fn config_of(header: &Header) -> Config
-    requires { is_in_limits header.now ≡ true }
-    ensures { result ≡ node_sizes header.now }
-{
-    match sizes_in(header) {
-        Some(config) => config,
-        None => unreachable!(),
-    }
-}
 
 /// The text of the commands of a file, whose bytes these are; else its first fault, or want of memory.
 fn text_of<A: Allocator + Copy>(alloc: A, bytes: &[u8]) -> Result<String<A>, Fault>
     ensures ok { IfOk result (λ text. IsTextOf bytes.now (string_bytes text)) }
     ensures err { IfErr result (λ fault. Fails fault (file_of bytes.now)) }
 {
-    let (header, lines) = read_head(alloc, bytes)?;
-    let config = config_of(&header);
-    text_of_lines(alloc, &config, lines)
+    // (matched, since the checker doesn't follow a `?` on what has a reference and an invariant in it)
+    match read_head(alloc, bytes) {
+        Ok(head) => text_of_lines(alloc, &head.0, head.1),
+        Err(fault) => Err(fault),
+    }
 }
 
 /// The same of the lines behind a header. Each is played as soon as it is read; where memory runs out, those

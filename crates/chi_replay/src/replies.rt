@@ -1,12 +1,13 @@
 //! The answers of the commands, and their text.
 
-ghost use Rattle.std.specs.Prelude.{◌≡◌, [], ◌∷◌, ◌++◌, OnOk, string_bytes};
+ghost use Rattle.std.specs.Prelude.{◌≡◌, [], ◌∷◌, ◌++◌, OnOk, codes, string_bytes};
 ghost use Rattle.std.specs.Fmt.{decimal};
 ghost use Rattle.chi_replay.specs.declared.replies.Reply.TheVariants as replies;
-ghost use Rattle.chi_replay.specs.Replies.{refusal_in, refused_text, released_text, reply_text};
+ghost use Rattle.chi_replay.specs.Replies.{audit_text, refusal_in, refused_text, released_text, reply_text, totals_text};
 
 use crate::credits::SeenCredits;
 use crate::flights::InFlight;
+use crate::listener::Listener;
 use crate::prints::{Printable, print_number};
 use crate::shown::Shown;
 use crate::totals::NodeTotals;
@@ -74,14 +75,12 @@ impl Reply {
         ensures { OnOk result (string_bytes printed.new
             ≡ string_bytes printed.old ++ (reply_text system.now.home self.now ++ (10 ∷ []))) }
     {
-        self.put(system, printed)?;
-        printed.push('\n')?;
-        Ok(())
+        printed.hear(system, *self)
     }
 
     /// Puts its text there.
     #[inline(always)]
-    fn put<A: Allocator, B: Allocator>(
+    pub(crate) fn put<A: Allocator, B: Allocator>(
         &self,
         system: &System<A>,
         printed: &mut String<B>,
@@ -105,8 +104,8 @@ impl Reply {
             }
             Reply::Idle => printed.push_str("ok idle"),
             Reply::Credits(credits) => credits.print(printed),
-            Reply::Totals(totals) => print_seldom(*totals, printed),
-            Reply::Audit(audit) => print_seldom(*audit, printed),
+            Reply::Totals(totals) => print_totals(totals, printed),
+            Reply::Audit(audit) => print_audit(*audit, printed),
             Reply::Line(line) => print_line(system, *line, printed),
             Reply::Flits(agent, line) => print_flits(system, *agent, *line, printed),
             Reply::Refused(refusal) => print_refused(*refusal, printed),
@@ -123,16 +122,26 @@ fn print_refused<A: Allocator>(refusal: Refusal, printed: &mut String<A>) -> Res
     write!(printed, "refused {number} {refusal}")
 }
 
-/// Prints what is asked for seldom: it isn't inlined, so that the frame of the others stays small.
+/// Prints numbers of entries. It isn't inlined, so that the frame of the others stays small.
 #[inline(never)]
-fn print_seldom<W: Printable + Copy, A: Allocator>(
-    part: W,
+fn print_totals<A: Allocator>(
+    totals: &NodeTotals,
     printed: &mut String<A>,
 ) -> Result<(), AllocError>
-    ensures { OnOk result
-        (string_bytes printed.new ≡ string_bytes printed.old ++ W.text part) }
+    ensures { OnOk result (string_bytes printed.new
+        ≡ string_bytes printed.old ++ (codes "ok " ++ totals_text totals.now)) }
 {
-    part.print(printed)
+    printed.push_str("ok ")?;
+    totals.print(printed)
+}
+
+/// Prints what an audit found. It isn't inlined either.
+#[inline(never)]
+fn print_audit<A: Allocator>(audit: Audit, printed: &mut String<A>) -> Result<(), AllocError>
+    ensures { OnOk result
+        (string_bytes printed.new ≡ string_bytes printed.old ++ audit_text audit) }
+{
+    audit.print(printed)
 }
 
 /// Prints all parts of a line. It isn't inlined either.

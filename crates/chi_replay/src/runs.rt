@@ -5,7 +5,7 @@ ghost use Rattle.chi_script.specs.Faults.{Fails};
 ghost use Rattle.chi_script.specs.Files.{commands_of, lines_of};
 ghost use Rattle.chi_replay.specs.Texts.{IsText, IsTextOfLines};
 
-use crate::session::answer;
+use crate::session::play;
 use chi_flit::NoMemory;
 use chi_node::System;
 use chi_script::{Command, Fault, command_in, first_line};
@@ -29,8 +29,7 @@ pub fn run<A: Allocator + Copy>(
     let mut system = System::new(alloc, config)?;
     let mut text = String::new(alloc);
     for command in commands {
-        let reply = answer(&mut system, *command);
-        reply.print(&system, &mut text)?;
+        play(&mut system, *command, &mut text)?;
     }
     Ok(text)
 }
@@ -55,8 +54,7 @@ pub fn run_lines<A: Allocator + Copy>(
     let mut number = 2;
     while let Some((line, after)) = first_line(rest) {
         let command = command_in(line, number)?;
-        let reply = answer(&mut system, command);
-        reply.print(&system, &mut text)?;
+        play(&mut system, command, &mut text)?;
         rest = after;
         number += 1;
     }

@@ -3,59 +3,83 @@
 ghost use Rattle.std.specs.Prelude.{◌≡◌};
 ghost use Rattle.chi_node.specs.Home.{node_view_refusal};
 ghost use Rattle.chi_script.specs.declared.commands.Command.TheVariants as commands;
-ghost use Rattle.chi_replay.specs.Session.{PlaysTurn};
+ghost use Rattle.chi_replay.specs.Session.{PlaysTurn, TellsTurn};
 
 use crate::credits::SeenCredits;
-use crate::node_replies::{arrival_reply, give_back_reply, step_reply, tend_reply, totals_told};
+use crate::listener::{Heard, Listener};
+use crate::node_replies::{arrival_reply, give_back_reply, step_reply, tend_reply};
 use crate::replies::Reply;
-use chi_flit::{Agent, CreditType, Line, Refusal};
+use crate::totals::NodeTotals;
+use chi_flit::{Agent, CreditType, Line, NoMemory, Refusal};
 use chi_node::System;
 use chi_script::Command;
 use std::alloc::Allocator;
 
 /// Does what a command says, and answers what came of it.
 /// Source: `docs/FORMATS.md`, "Replay files".
-#[inline(always)]
 pub fn answer<A: Allocator>(system: &mut System<A>, command: Command) -> Reply
     ensures { PlaysTurn command system.old system.new result }
 {
+    let mut heard = Heard(Reply::Done);
+    let Ok(()) = play(system, command, &mut heard) else {
+        unreachable!();
+    };
+    heard.0
+}
+
+/// Does what a command says, and tells the listener what came of it. Refused where the listener refuses
+/// what it is told.
+#[inline(always)]
+pub(crate) fn play<A: Allocator, L: Listener>(
+    system: &mut System<A>,
+    command: Command,
+    listener: &mut L,
+) -> Result<(), NoMemory>
+    ensures { TellsTurn command system.old system.new
+        (λ reply. L.hears listener.old system.new.home reply listener.new result) }
+{
     // What is asked for seldom isn't inlined, so that this frame stays small.
     match command {
-        Command::Totals => totals(system),
-        Command::Audit => audit(system),
-        Command::Show { line } => shown_line(system, line),
-        Command::Flits { agent, line } => shown_flits(system, agent, line),
-        Command::See { agent } => see(system, agent),
+        Command::Totals => totals(system, listener),
+        Command::Audit => audit(system, listener),
+        Command::Show { line } => shown_line(system, line, listener),
+        Command::Flits { agent, line } => shown_flits(system, agent, line, listener),
+        Command::See { agent } => see(system, agent, listener),
         Command::Arrive { agent, line } => {
             let arrived = system.arrive(agent, line);
-            arrival_reply(arrived)
+            listener.hear(system, arrival_reply(arrived))
         }
-        Command::GiveBack { agent, credit } => give_back(system, agent, credit),
-        Command::Tend { agent, credit } => tend(system, agent, credit),
+        Command::GiveBack { agent, credit } => give_back(system, agent, credit, listener),
+        Command::Tend { agent, credit } => tend(system, agent, credit, listener),
         Command::Act(action) => {
             let stepped = system.step(action.action());
-            step_reply(stepped)
+            listener.hear(system, step_reply(stepped))
         }
     }
 }
 
 /// The numbers of entries and of owed credits.
 #[inline(never)]
-fn totals<A: Allocator>(system: &System<A>) -> Reply
-    ensures { PlaysTurn commands.Totals system.now system.now result }
+fn totals<A: Allocator, L: Listener>(system: &System<A>, listener: &mut L) -> Result<(), NoMemory>
+    ensures { TellsTurn commands.Totals system.now system.now
+        (λ reply. L.hears listener.old system.now.home reply listener.new result) }
 {
     let counts = system.glance();
     let profile = system.config().profile();
-    Reply::Totals(totals_told(counts, profile))
+    listener.hear(system, Reply::Totals(NodeTotals { counts, profile }))
 }
 
 /// The loads and stores, and whether all is coherent: the headline of the node is asked for.
 #[inline(never)]
-fn audit<A: Allocator>(system: &mut System<A>) -> Reply
-    ensures { PlaysTurn commands.Audit system.old system.new result }
+fn audit<A: Allocator, L: Listener>(
+    system: &mut System<A>,
+    listener: &mut L,
+) -> Result<(), NoMemory>
+    ensures { TellsTurn commands.Audit system.old system.new
+        (λ reply. L.hears listener.old system.new.home reply listener.new result) }
 {
     let found = system.headline();
-    Reply::Audit(found)
+    listener.hear(system, Reply::Audit(found))
 }
 
 /// Why the line isn't there, where it isn't.
@@ -71,56 +95,80 @@ fn line_refusal<A: Allocator>(system: &System<A>, line: Line) -> Option<Refusal>
 
 /// Whether the line is there.
 #[inline(never)]
-fn shown_line<A: Allocator>(system: &System<A>, line: Line) -> Reply
-    ensures { PlaysTurn (commands.Show line) system.now system.now result }
+fn shown_line<A: Allocator, L: Listener>(
+    system: &System<A>,
+    line: Line,
+    listener: &mut L,
+) -> Result<(), NoMemory>
+    ensures { TellsTurn (commands.Show line) system.now system.now
+        (λ reply. L.hears listener.old system.now.home reply listener.new result) }
 {
     match line_refusal(system, line) {
-        None => Reply::Line(line),
-        Some(refusal) => Reply::Refused(refusal),
+        None => listener.hear(system, Reply::Line(line)),
+        Some(refusal) => listener.hear(system, Reply::Refused(refusal)),
     }
 }
 
 /// Whether the agent and the line are there.
 #[inline(never)]
-fn shown_flits<A: Allocator>(system: &System<A>, agent: Agent, line: Line) -> Reply
-    ensures { PlaysTurn (commands.Flits agent line) system.now system.now result }
+fn shown_flits<A: Allocator, L: Listener>(
+    system: &System<A>,
+    agent: Agent,
+    line: Line,
+    listener: &mut L,
+) -> Result<(), NoMemory>
+    ensures { TellsTurn (commands.Flits agent line) system.now system.now
+        (λ reply. L.hears listener.old system.now.home reply listener.new result) }
 {
     match system.slice_of(line).row_for(agent, line) {
-        Ok(_) => Reply::Flits(agent, line),
-        Err(refusal) => Reply::Refused(refusal),
+        Ok(_) => listener.hear(system, Reply::Flits(agent, line)),
+        Err(refusal) => listener.hear(system, Reply::Refused(refusal)),
     }
 }
 
 /// The agent looks at its promises: its seen credits by type.
 #[inline(always)]
-fn see<A: Allocator>(system: &mut System<A>, agent: Agent) -> Reply
-    ensures { PlaysTurn (commands.See agent) system.old system.new result }
+fn see<A: Allocator, L: Listener>(
+    system: &mut System<A>,
+    agent: Agent,
+    listener: &mut L,
+) -> Result<(), NoMemory>
+    ensures { TellsTurn (commands.See agent) system.old system.new
+        (λ reply. L.hears listener.old system.new.home reply listener.new result) }
 {
     let profile = system.config().profile();
     match system.see(agent) {
-        Ok(counts) => Reply::Credits(SeenCredits { counts, profile }),
-        Err(refusal) => Reply::Refused(refusal),
+        Ok(counts) => listener.hear_credits(system, SeenCredits { counts, profile }),
+        Err(refusal) => listener.hear(system, Reply::Refused(refusal)),
     }
 }
 
 /// The agent gives a credit of the type back.
 #[inline(never)]
-fn give_back<A: Allocator>(
+fn give_back<A: Allocator, L: Listener>(
     system: &mut System<A>,
     agent: Agent,
     credit: Option<CreditType>,
-) -> Reply
-    ensures { PlaysTurn (commands.GiveBack agent credit) system.old system.new result }
+    listener: &mut L,
+) -> Result<(), NoMemory>
+    ensures { TellsTurn (commands.GiveBack agent credit) system.old system.new
+        (λ reply. L.hears listener.old system.new.home reply listener.new result) }
 {
     let given = system.give_back(agent, credit);
-    give_back_reply(given)
+    listener.hear(system, give_back_reply(given))
 }
 
 /// The agent tends the type.
 #[inline(never)]
-fn tend<A: Allocator>(system: &mut System<A>, agent: Agent, credit: Option<CreditType>) -> Reply
-    ensures { PlaysTurn (commands.Tend agent credit) system.old system.new result }
+fn tend<A: Allocator, L: Listener>(
+    system: &mut System<A>,
+    agent: Agent,
+    credit: Option<CreditType>,
+    listener: &mut L,
+) -> Result<(), NoMemory>
+    ensures { TellsTurn (commands.Tend agent credit) system.old system.new
+        (λ reply. L.hears listener.old system.new.home reply listener.new result) }
 {
     let tended = system.tend(agent, credit);
-    tend_reply(tended)
+    listener.hear(system, tend_reply(tended))
 }

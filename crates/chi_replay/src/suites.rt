@@ -340,8 +340,9 @@ fn write_suite_summary<A: Allocator>(
 }
 
 /// What is wrong with a file, without the program's name.
+/// Source: `docs/FORMATS.md`, "The program".
 #[derive(Clone, Copy, Debug)]
-struct FaultWords(Fault);
+pub struct FaultWords(pub Fault);
 
 impl fmt::Display for FaultWords {
     ghost output = { λ words. Some (fault_words words.0) };

@@ -1,51 +1,35 @@
-//! The answer of `totals`.
+//! The numbers of `totals`.
 
-ghost use Rattle.std.specs.Prelude.{◌≡◌, ◌++◌, OnOk, codes, string_bytes};
+ghost use Rattle.std.specs.Prelude.{◌≡◌, ◌++◌, OnOk, string_bytes};
 ghost use Rattle.std.specs.Fmt.{decimal};
-ghost use Rattle.chi_replay.specs.Replies.{storm_totals_text, spaced_texts};
+ghost use Rattle.chi_replay.specs.Replies.{totals_text, spaced_texts};
 
 use crate::numbers::type_count;
 use crate::prints::{Printable, print_numbers};
 use chi_flit::Profile;
+use chi_node::Counts;
 use std::alloc::{AllocError, Allocator};
 
 /// How many entries of each credit type are free, in hand of a requester or promised to one, and how many
-/// credits are owed. It prints as the answer of `totals`, without the line feed: the numbers of the types
-/// that the profile has.
-/// Source: `docs/FORMATS.md`, "Replay files".
+/// credits are owed. It prints as the line of a storm, without the line feed: the numbers of the types that the
+/// profile has. The answer of `totals` says `ok` before it.
+/// Source: `docs/FORMATS.md`, "Replay files" and "The output of a storm".
 #[derive(Clone, Copy, Debug, PartialEq, Eq)]
 pub struct NodeTotals {
-    pub free: [u32; 4],
-    pub hand: [u32; 4],
-    pub promised: [u32; 4],
-    pub owed: [u32; 4],
+    pub counts: Counts,
     pub profile: Profile,
 }
 
-/// The same numbers, without the word that an answer begins with: the line of a storm.
-/// Source: `docs/FORMATS.md`, "The output of a storm".
-#[derive(Clone, Copy, Debug, PartialEq, Eq)]
-pub struct StormTotals(pub NodeTotals);
-
 impl Printable for NodeTotals {
-    ghost text = { λ totals. codes "ok " ++ storm_totals_text totals };
+    ghost text = { totals_text };
 
     fn print<A: Allocator>(&self, printed: &mut String<A>) -> Result<(), AllocError> {
-        printed.push_str("ok ")?;
-        StormTotals(*self).print(printed)
-    }
-}
-
-impl Printable for StormTotals {
-    ghost text = { λ totals. storm_totals_text totals.0 };
-
-    fn print<A: Allocator>(&self, printed: &mut String<A>) -> Result<(), AllocError> {
-        let totals = self.0;
-        let types = type_count(totals.profile);
-        print_named("free", &totals.free[..types], printed)?;
-        print_named(" hand", &totals.hand[..types], printed)?;
-        print_named(" promised", &totals.promised[..types], printed)?;
-        print_named(" owed", &totals.owed[..types], printed)
+        let counts = &self.counts;
+        let types = type_count(self.profile);
+        print_named("free", &counts.free[..types], printed)?;
+        print_named(" hand", &counts.hand[..types], printed)?;
+        print_named(" promised", &counts.promised[..types], printed)?;
+        print_named(" owed", &counts.owed[..types], printed)
     }
 }
 

@@ -30,9 +30,9 @@ const COMMENTED: &[u8] =
 #[test]
 fn a_good_file_is_its_header_and_its_checks(rt: HostRuntime) -> Result<(), Fault> {
     let script = read_checks(rt.alloc(), COMMENTED)?;
-    same(&rt, script.header.agents, 2);
-    same(&rt, script.header.lines, 4);
-    same(&rt, script.header.profile, Profile::Two);
+    same(&rt, script.header.agents(), 2);
+    same(&rt, script.header.lines(), 4);
+    same(&rt, script.header.profile(), Profile::Two);
     let arrive = Command::Arrive {
         agent: Agent(1),
         line: Line(3),

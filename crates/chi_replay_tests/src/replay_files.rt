@@ -2,11 +2,10 @@
 
 ghost use Rattle.std.specs.Prelude.{◌≡◌};
 
-use chi_flit::{Action, Agent, CreditType, Kind, Line, Profile, Slot, Step, WordNo};
+use chi_flit::{Action, Agent, Config, CreditType, Kind, Line, Slot, Step, WordNo};
 use chi_script::{
-    Command, Fault, Header, MOST_BYTES, RequesterAction, commands_are_lines, headers_are_lines,
-    number, numbers_are_decimal, read_command, read_file, read_header, replay_front_is_enough,
-    small,
+    Command, Fault, MOST_BYTES, RequesterAction, commands_are_lines, headers_are_lines, number,
+    numbers_are_decimal, read_command, read_file, read_header, replay_front_is_enough, small,
 };
 use std::alloc::{AllocError, Global};
 use std::process::Abort;
@@ -74,15 +73,8 @@ fn a_good_file_is_its_header_and_its_commands(rt: HostRuntime) -> Result<(), Fau
     let file =
         b"node 8 64 1 32 32 65536\nissue 1 3 ReadNotSharedDirty 7\narrive 1 3\nstart 1 3\ndata 1 3\nack 1 3\nflits 256 300\nshow 255\ntotals\naudit\n";
     let script = read_file(rt.alloc(), file)?;
-    let header = Header {
-        agents: 8,
-        lines: 64,
-        slices: 1,
-        entries: [32, 32, 0, 0],
-        journal: 65_536,
-        profile: Profile::Two,
-    };
-    assert!(rt; script.header == header);
+    let config = Config::new(8, 64, 1, 32, 32, 65_536).expect(&rt, "sizes in their limits");
+    assert!(rt; script.header == config);
     let commands = [
         Command::Act(RequesterAction::new(action(Step::Issue(Kind::ReadNotSharedDirty, Slot(7))))),
         Command::Arrive {
@@ -276,7 +268,7 @@ fn headers_of_both_forms_are_read(rt: HostRuntime) {
     }
 }
 
-const OTHER_HEADERS: [&[u8]; 13] = [
+const OTHER_HEADERS: [&[u8]; 15] = [
     b"node 0 8 1 1 1 4\n",
     b"node 9 8 1 1 1 4\n",
     b"node 257 8 1 1 1 4\n",
@@ -287,6 +279,8 @@ const OTHER_HEADERS: [&[u8]; 13] = [
     b"node 2 8 1 1 1 0 1 4\n",
     b"node 2 8 1 1 1 1 0 4\n",
     b"node 2 8 1 254 1 1 1 4\n",
+    b"node 2 8 1 65537 1 1 1 4\n",
+    b"node 2 8 1 1 1 4294967297\n",
     b"node 2 8 1 1 1 1 1 0\n",
     b"node 2 8 1 1 1 1 4\n",
     b"node 2 8 1 1 1 1 1 1 4\n",

@@ -1,8 +1,8 @@
 //! Storm files, good and faulty, by `docs/FORMATS.md`, "Storm files".
 
-use chi_flit::{Agent, Line, Operation, Profile, Task, WordNo};
+use chi_flit::{Agent, Config, Line, Operation, Task, WordNo};
 use chi_script::{
-    AgentOperation, Fault, Header, MOST_BYTES, operations_are_lines, read_operation, read_storm,
+    AgentOperation, Fault, MOST_BYTES, operations_are_lines, read_operation, read_storm,
     read_words, storm_front_is_enough, storms_are_files,
 };
 use std::alloc::AllocError;
@@ -62,17 +62,10 @@ fn a_good_file_is_its_header_and_its_operations(rt: HostRuntime) -> Result<(), F
 fn both_forms_of_a_header_are_read(rt: HostRuntime) -> Result<(), Fault> {
     let two = read_storm(rt.alloc(), b"node 8 64 8 32 32 65536\n")?;
     let four = read_storm(rt.alloc(), b"node 8 64 8 64 64 64 64 65536\n")?;
-    let header = Header {
-        agents: 8,
-        lines: 64,
-        slices: 8,
-        entries: [32, 32, 0, 0],
-        journal: 65_536,
-        profile: Profile::Two,
-    };
-    assert_eq!(rt; two.header, header);
-    assert_eq!(rt; four.header.entries, [64; 4]);
-    assert_eq!(rt; four.header.profile, Profile::Four);
+    let config = Config::new(8, 64, 8, 32, 32, 65_536).expect(&rt, "sizes in their limits");
+    assert!(rt; two.header == config);
+    let config = Config::four(8, 64, 8, [64; 4], 65_536).expect(&rt, "sizes in their limits");
+    assert!(rt; four.header == config);
     assert_eq!(rt; four.deeds.len(), 0);
     Ok(())
 }

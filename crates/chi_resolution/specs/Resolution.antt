@@ -1,6 +1,6 @@
 -- What a trace resolves to: each flit is taken with what those before it have left open, up to the first that isn't
 -- allowed (docs/TRACES.md, "Nodes, ids and credits").
-use Rattle.std.specs.Prelude.{ℕ, ◌+◌, ◌==◌, ◌&&◌, not, Bool, true, false, List, [], ◌∷◌, ◌++◌, Option, Some, None, Result, Ok, Err, if◌then◌else◌, is_some, slice_set}
+use Rattle.std.specs.Prelude.{◌≡◌, length, ℕ, ◌+◌, ◌==◌, ◌&&◌, not, Bool, true, false, List, [], ◌∷◌, ◌++◌, Option, Some, None, Result, Ok, Err, if◌then◌else◌, is_some, slice_set}
 use Rattle.std.specs.List.{filter, slice_get}
 use Rattle.indexmap.specs.IndexMap.{insert_entry, swap_remove_entry}
 use Rattle.chi_trace.specs.declared.fields.NodeId.{NodeId}
@@ -168,3 +168,12 @@ more_by options at progress seen (Some fault) = record { progress = progress; fa
 
 abbrev pub resolved_more : Options → ℕ → IdOutcome → Seen → IdOutcome
 resolved_more options at outcome seen = more_by options at outcome.progress seen outcome.fault
+
+-- a trace's first flit that isn't allowed: so many stand before it, and the trace has this fault whatever follows it
+pub record IsFirstRefused (options : Options) (seen : List Seen) (fault : IdFault) : Type 0 where
+  pub before : List Seen
+  pub one : Seen
+  pub after : List Seen
+  pub is : seen ≡ before ++ one ∷ after
+  pub place : fault.at ≡ length before
+  pub ever : (more : List Seen) → (resolution_of options (before ++ one ∷ more)).fault ≡ Some fault

@@ -1,12 +1,12 @@
 //! The flits of a trace, resolved one after the other.
 
-ghost use Rattle.std.specs.Prelude.{◌≡◌, ◌++◌, All, IfOk, OnOk, not};
+ghost use Rattle.std.specs.Prelude.{◌≡◌, ◌++◌, All, IfOk, IfSome, OnOk, not};
 ghost use Rattle.std.specs.List.{filter};
 ghost use Rattle.std.specs.Map.{values_of};
 ghost use Rattle.chi_resolution.specs.Grants.{AreGrantsDue};
 ghost use Rattle.chi_resolution.specs.Ids.{with_id, without};
 ghost use Rattle.chi_resolution.specs.Ledger.{IsLedgerBalanced, booked};
-ghost use Rattle.chi_resolution.specs.Resolution.{after_beat, after_flit, acting_agent, allowed_of, data_after, ids_after, is_ack_of, is_released, nothing, placed, resolution_of, stepped, taken, waiting_after, with_data};
+ghost use Rattle.chi_resolution.specs.Resolution.{IsFirstRefused, after_beat, after_flit, acting_agent, allowed_of, data_after, ids_after, is_ack_of, is_released, nothing, placed, resolution_of, stepped, taken, waiting_after, with_data};
 
 use crate::beats::OpenData;
 use crate::ids::{KeyTable, OpenId, OpenKey, numbers_of};
@@ -115,6 +115,9 @@ pub fn resolve<A: Allocator + Copy>(
 
     // Each grant, by the flits before it: G < R, or with early grants less than R and the first attempts on their way.
     ensures grants { IfOk result (λ r. AreGrantsDue options seen.now r.fault) }
+
+    // The first flit that isn't allowed, and that no trace that goes on behind it is without that fault.
+    ensures refused { IfOk result (λ r. IfSome r.fault (IsFirstRefused options seen.now)) }
 {
     let mut state = Resolver::new(alloc, seen.len())?;
     for (at, flit) in seen.iter().enumerate() {

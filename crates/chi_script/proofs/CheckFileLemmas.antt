@@ -5,7 +5,7 @@ use Rattle.std.proofs.lemmas.Bool.Decides.{nat_tests}
 use Rattle.std.proofs.lemmas.List.{take_all, length-take}
 use Rattle.chi_script.specs.declared.faults.Fault.{Fault}
 use Rattle.chi_script.specs.declared.faults.Fault.TheVariants.{BadHeader, BadCommand, MissingNewline, TooLarge}
-use Rattle.chi_script.specs.declared.headers.Header.{Header}
+use Rattle.chi_flit.specs.Config.{Sizes}
 use Rattle.chi_script.specs.Files.{◌>>=◌, header_at, lines_of}
 use Rattle.chi_script.specs.Headers.{header_of}
 use Rattle.chi_script.specs.Spelling.{IsHeaderLine}
@@ -69,46 +69,46 @@ checks_read n line (next ∷ rest) checks e =
     record { lines = line ∷ read.lines; closed = ap (λ (ls : List (List ℕ)). line ∷ ls) read.closed; text = one_check n line one.0 more.0 checks read.lines (is_comment line) refl one.1 same read.text }
 
 -- the same with the header
-record IsRead (n : ℕ) (header : Header) (checks : List CheckLine) (all : List (List ℕ)) : Type 0 where
+record IsRead (n : ℕ) (header : Sizes) (checks : List CheckLine) (all : List (List ℕ)) : Type 0 where
   lines : List (List ℕ)
   closed : all ≡ lines ++ [] ∷ []
   text : AreHeaderAndChecks n header checks lines
 
-no_file : (b : Bool) (f g : Fault) (x : Header × List CheckLine) → cond b (Err f) (Err g) ≡ Ok x → ⊥
+no_file : (b : Bool) (f g : Fault) (x : Sizes × List CheckLine) → cond b (Err f) (Err g) ≡ Ok x → ⊥
 no_file true f g x e = cc
 no_file false f g x e = cc
 
-behind_comment : (n : ℕ) (header : Header) (checks : List CheckLine) (line : List ℕ) (rest : List (List ℕ)) → is_comment line ≡ true → IsRead (n + 1) header checks rest → IsRead n header checks (line ∷ rest)
+behind_comment : (n : ℕ) (header : Sizes) (checks : List CheckLine) (line : List ℕ) (rest : List (List ℕ)) → is_comment line ≡ true → IsRead (n + 1) header checks rest → IsRead n header checks (line ∷ rest)
 behind_comment n header checks line rest is read = record { lines = line ∷ read.lines; closed = ap (λ (ls : List (List ℕ)). line ∷ ls) read.closed; text = inl (comment_read line is, read.text) }
 
 -- a header's line, and what was read behind it
-abbrev behind_header : ℕ → List ℕ → Result (List CheckLine) Fault → Result (Header × List CheckLine) Fault
+abbrev behind_header : ℕ → List ℕ → Result (List CheckLine) Fault → Result (Sizes × List CheckLine) Fault
 behind_header n line read = header_at n line >>= λ header. read >>= λ checks. Ok (header, checks)
 
-with_header : (n : ℕ) (header : Header) (checks : List CheckLine) (line next : List ℕ) (rest : List (List ℕ)) → behind_header n line (checks_of (n + 1) (next ∷ rest)) ≡ Ok (header, checks)
+with_header : (n : ℕ) (header : Sizes) (checks : List CheckLine) (line next : List ℕ) (rest : List (List ℕ)) → behind_header n line (checks_of (n + 1) (next ∷ rest)) ≡ Ok (header, checks)
     → IsRead n header checks (line ∷ next ∷ rest)
 with_header n header checks line next rest e =
     let first = bound (header_at n line) (λ h. checks_of (n + 1) (next ∷ rest) >>= λ cs. Ok (h, cs)) (header, checks) e in
     let more = bound (checks_of (n + 1) (next ∷ rest)) (λ cs. Ok (first.0, cs)) (header, checks) first.2 in
-    let same : ◌≡◌ {A = Header × List CheckLine} (first.0, more.0) (header, checks) = let last = more.2 in cc in
+    let same : ◌≡◌ {A = Sizes × List CheckLine} (first.0, more.0) (header, checks) = let last = more.2 in cc in
     let read = checks_read (n + 1) next rest more.0 more.1 in
     let spelled = header_line line first.0 (taken (header_of (words_of line)) (BadHeader n) first.0 first.1) in
-    subst (λ (x : Header × List CheckLine). IsRead n x.0 x.1 (line ∷ next ∷ rest)) same
+    subst (λ (x : Sizes × List CheckLine). IsRead n x.0 x.1 (line ∷ next ∷ rest)) same
     (record { lines = line ∷ read.lines; closed = ap (λ (ls : List (List ℕ)). line ∷ ls) read.closed; text = inr (spelled, read.text) })
 
-pick_line : (n : ℕ) (header : Header) (checks : List CheckLine) (line next : List ℕ) (rest : List (List ℕ)) (comment : Bool) (later : Result (Header × List CheckLine) Fault) → is_comment line ≡ comment
+pick_line : (n : ℕ) (header : Sizes) (checks : List CheckLine) (line next : List ℕ) (rest : List (List ℕ)) (comment : Bool) (later : Result (Sizes × List CheckLine) Fault) → is_comment line ≡ comment
     → cond comment later (behind_header n line (checks_of (n + 1) (next ∷ rest))) ≡ Ok (header, checks)
     → (later ≡ Ok (header, checks) → IsRead (n + 1) header checks (next ∷ rest)) → IsRead n header checks (line ∷ next ∷ rest)
 pick_line n header checks line next rest true later is e go = behind_comment n header checks line (next ∷ rest) is (go e)
 pick_line n header checks line next rest false later is e go = with_header n header checks line next rest e
 
-lines_read : (n : ℕ) (header : Header) (checks : List CheckLine) (line : List ℕ) (rest : List (List ℕ)) → check_script_of n (line ∷ rest) ≡ Ok (header, checks) → IsRead n header checks (line ∷ rest)
+lines_read : (n : ℕ) (header : Sizes) (checks : List CheckLine) (line : List ℕ) (rest : List (List ℕ)) → check_script_of n (line ∷ rest) ≡ Ok (header, checks) → IsRead n header checks (line ∷ rest)
 unfolding check_script_of
 lines_read n header checks last [] e = absurd (no_file (length last == 0) (BadHeader n) (MissingNewline n) (header, checks) e)
 lines_read n header checks line (next ∷ rest) e = pick_line n header checks line next rest (is_comment line) (check_script_of (n + 1) (next ∷ rest)) refl e (lines_read (n + 1) header checks next rest)
 
 -- a file that isn't too large
-fits : (b : Bool) (read : Result (Header × List CheckLine) Fault) (x : Header × List CheckLine) → cond b (Err TooLarge) read ≡ Ok x → (b ≡ false) × (read ≡ Ok x)
+fits : (b : Bool) (read : Result (Sizes × List CheckLine) Fault) (x : Sizes × List CheckLine) → cond b (Err TooLarge) read ≡ Ok x → (b ≡ false) × (read ≡ Ok x)
 fits true read x e = cc
 fits false read x e = (refl, e)
 
@@ -118,7 +118,7 @@ not_above most n e = grind (arith, nat_tests)
 not_large : (most n : ℕ) → n ≤ most → nat_lt most n ≡ false
 not_large most n le = grind (arith, nat_tests)
 
-pub file_read : (header : Header) (checks : List CheckLine) (file : List ℕ) → check_file_of file ≡ Ok (header, checks) → IsCheckFile header checks file
+pub file_read : (header : Sizes) (checks : List CheckLine) (file : List ℕ) → check_file_of file ≡ Ok (header, checks) → IsCheckFile header checks file
 unfolding check_file_of
 file_read header checks file e =
     let size = fits (nat_lt most_check_bytes (length file)) (check_script_of 1 (lines_of file)) (header, checks) e in
@@ -149,7 +149,7 @@ checks_again n checks (line ∷ lines) (inr is) =
     let more = checks_again (n + 1) is.1 lines is.4 in
     one_line n line lines ∙ (rw (check_at_again n line is.0 is.3, more) refl ∙ ap Ok (sym is.2))
 
-header_line_first : (n : ℕ) (header : Header) (line : List ℕ) (lines : List (List ℕ)) → IsHeaderLine header line
+header_line_first : (n : ℕ) (header : Sizes) (line : List ℕ) (lines : List (List ℕ)) → IsHeaderLine header line
     → check_script_of n (line ∷ lines ++ [] ∷ []) ≡ (checks_of (n + 1) (lines ++ [] ∷ []) >>= λ checks. Ok (header, checks))
 unfolding check_script_of
 header_line_first n header line lines is =
@@ -161,12 +161,12 @@ comment_first : (n : ℕ) (line : List ℕ) (lines : List (List ℕ)) → IsComm
 unfolding check_script_of
 comment_first n line lines is = let more = some_behind lines in rw (more.2, comment_again line is) refl
 
-lines_again : (n : ℕ) (header : Header) (checks : List CheckLine) (lines : List (List ℕ)) → AreHeaderAndChecks n header checks lines → check_script_of n (lines ++ [] ∷ []) ≡ Ok (header, checks)
+lines_again : (n : ℕ) (header : Sizes) (checks : List CheckLine) (lines : List (List ℕ)) → AreHeaderAndChecks n header checks lines → check_script_of n (lines ++ [] ∷ []) ≡ Ok (header, checks)
 lines_again n header checks [] is = absurd is
 lines_again n header checks (line ∷ lines) (inl is) = comment_first n line lines is.0 ∙ lines_again (n + 1) header checks lines is.1
 lines_again n header checks (line ∷ lines) (inr is) = header_line_first n header line lines is.0 ∙ rw (checks_again (n + 1) checks lines is.1) refl
 
-pub file_again : (header : Header) (checks : List CheckLine) (file : List ℕ) → IsCheckFile header checks file → check_file_of file ≡ Ok (header, checks)
+pub file_again : (header : Sizes) (checks : List CheckLine) (file : List ℕ) → IsCheckFile header checks file → check_file_of file ≡ Ok (header, checks)
 unfolding check_file_of
 file_again header checks file is = rw (not_large most_check_bytes (length file) is.size, is.closed) (lines_again 1 header checks is.lines is.text)
 
@@ -201,9 +201,9 @@ pub front_enough : (file : List ℕ) → check_file_of (take (1 + most_check_byt
 front_enough file = enough file (nat_lt most_check_bytes (length file)) refl
 
 -- of a good file all was taken
-whole_if : (file : List ℕ) (b : Bool) (read : Header × List CheckLine) → nat_lt most_check_bytes (length file) ≡ b → check_file_of file ≡ Ok read → take (1 + most_check_bytes) file ≡ file
+whole_if : (file : List ℕ) (b : Bool) (read : Sizes × List CheckLine) → nat_lt most_check_bytes (length file) ≡ b → check_file_of file ≡ Ok read → take (1 + most_check_bytes) file ≡ file
 whole_if file false read is good = all_taken file is
 whole_if file true read is good = absurd (cc (good, too_large file (above most_check_bytes (length file) is)))
 
-pub whole : (file : List ℕ) (read : Header × List CheckLine) → check_file_of file ≡ Ok read → take (1 + most_check_bytes) file ≡ file
+pub whole : (file : List ℕ) (read : Sizes × List CheckLine) → check_file_of file ≡ Ok read → take (1 + most_check_bytes) file ≡ file
 whole file read good = whole_if file (nat_lt most_check_bytes (length file)) read refl good

@@ -2,7 +2,7 @@
 use Rattle.std.proofs.Common.{◌≡◌, ℕ, ◌==◌, Bool, true, false, List, [], ◌∷◌, Option, Some, None, refl, sym, ap, subst, ◌∙◌, arith}
 use Rattle.std.proofs.lemmas.Bool.Decides.{nat_tests}
 use Rattle.chi_script.specs.declared.commands.Command.{Command}
-use Rattle.chi_script.specs.declared.headers.Header.{Header}
+use Rattle.chi_flit.specs.Config.{Sizes}
 use Rattle.chi_script.specs.Commands.{command_of}
 use Rattle.chi_script.specs.Verbs.{verb_named}
 use Rattle.chi_script.specs.Spelling.{IsHeaderLine}
@@ -71,7 +71,7 @@ same_front (b ∷ bs) (Some answer) e = e
 pub check_no_comment : (n : ℕ) (check : CheckLine) (line : List ℕ) → IsCheckLine n check line → is_comment line ≡ false
 check_no_comment n check line is = ap is_comment is.text ∙ same_front is.front check.wanted (command_no_comment is.front check.command (line_again is.front check.command is.command))
 
-pub header_no_comment : (header : Header) (line : List ℕ) → IsHeaderLine header line → is_comment line ≡ false
+pub header_no_comment : (header : Sizes) (line : List ℕ) → IsHeaderLine header line → is_comment line ≡ false
 header_no_comment header line is = ap is_comment is.1
 
 pub comment_read : (line : List ℕ) → is_comment line ≡ true → IsComment line

@@ -3,7 +3,7 @@ use Rattle.std.proofs.Common.{◌≡◌, ℕ, ◌<◌, ◌≤◌, Bool, true, fa
 use Rattle.std.proofs.lemmas.List.{take_all, length-take}
 use Rattle.chi_script.specs.declared.faults.Fault.TheVariants.{TooLarge}
 use Rattle.std.proofs.lemmas.Bool.Decides.{nat_tests}
-use Rattle.chi_script.specs.declared.headers.Header.{Header}
+use Rattle.chi_flit.specs.Config.{Sizes}
 use Rattle.chi_script.specs.declared.commands.Command.{Command}
 use Rattle.chi_script.specs.declared.faults.Fault.{Fault}
 use Rattle.chi_script.specs.Faults.{Fails}
@@ -18,14 +18,14 @@ whole file line rest e = let more = parts_of (λ b. b == 10) rest in rw (e, more
 pub bad_header : (fault : Fault) (file line rest : List ℕ) → lines_of file ≡ line ∷ lines_of rest → Fails fault (header_at 1 line) → Fails fault (script_of (lines_of file))
 bad_header fault file line rest e is = rw (whole file line rest e) (failed fault _ _ is)
 
-pub good_header : (file line rest : List ℕ) (header : Header) → lines_of file ≡ line ∷ lines_of rest → header_at 1 line ≡ Ok header → script_of (lines_of file) ≡ with_header header (commands_of 2 (lines_of rest))
+pub good_header : (file line rest : List ℕ) (header : Sizes) → lines_of file ≡ line ∷ lines_of rest → header_at 1 line ≡ Ok header → script_of (lines_of file) ≡ with_header header (commands_of 2 (lines_of rest))
 good_header file line rest header e read = whole file line rest e ∙ rw read refl
 
 -- what the lines behind a header are is what the file is
-pub bad_commands : (fault : Fault) (file lines : List ℕ) (header : Header) → file_of file ≡ with_header header (commands_of 2 (lines_of lines)) → Fails fault (commands_of 2 (lines_of lines)) → Fails fault (file_of file)
+pub bad_commands : (fault : Fault) (file lines : List ℕ) (header : Sizes) → file_of file ≡ with_header header (commands_of 2 (lines_of lines)) → Fails fault (commands_of 2 (lines_of lines)) → Fails fault (file_of file)
 bad_commands fault file lines header e is = rw e (failed fault _ _ is)
 
-pub good_commands : (file lines : List ℕ) (header : Header) (commands : List Command) → file_of file ≡ with_header header (commands_of 2 (lines_of lines)) → commands_of 2 (lines_of lines) ≡ Ok commands → file_of file ≡ Ok (header, commands)
+pub good_commands : (file lines : List ℕ) (header : Sizes) (commands : List Command) → file_of file ≡ with_header header (commands_of 2 (lines_of lines)) → commands_of 2 (lines_of lines) ≡ Ok commands → file_of file ≡ Ok (header, commands)
 good_commands file lines header commands e all = e ∙ ap (with_header header) all
 
 large : (n : ℕ) → 1048576 < n → nat_lt 1048576 n ≡ true

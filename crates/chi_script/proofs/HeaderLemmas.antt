@@ -6,13 +6,12 @@ use Rattle.std.proofs.lemmas.List.Splits.{join_with_byte-slice_split}
 use Rattle.std.proofs.lemmas.Slice.Eq.{bytes_eq-Decides}
 use Rattle.chi_flit.specs.declared.credit.Profile.{Profile}
 use Rattle.chi_flit.specs.declared.credit.Profile.TheVariants.{Two, Four}
-use Rattle.chi_script.specs.declared.headers.Header.{Header}
 use Rattle.chi_script.specs.declared.headers.CreditTypes.{CreditTypes}
 use Rattle.chi_script.specs.Words.{◌>>=◌, is_text, words_of, number_of, has_no_space}
-use Rattle.chi_flit.specs.Config.{are_entries}
-use Rattle.chi_script.specs.Headers.{types_of, header_sizes, header_in_limits, header_of, is_in_limits, IsInLimits}
+use Rattle.chi_flit.specs.Config.{Sizes, are_entries, config_if}
+use Rattle.chi_script.specs.Headers.{types_of, header_sizes, header_of, is_in_limits}
 use Rattle.chi_script.specs.Spelling.{type_words, header_words, IsHeaderLine}
-use Rattle.chi_script.proofs.LimitLemmas.{each_few, entries_fit, limits_of, none_left}
+use Rattle.chi_script.proofs.LimitLemmas.{IsInLimits, each_few, entries_fit, limits_of, none_left}
 use Rattle.chi_script.proofs.NumberLemmas.{number_read, number_again, bound}
 use Rattle.chi_script.proofs.SpaceLemmas.{no_spaces, joined_again, decimal_no_space}
 
@@ -46,10 +45,10 @@ types_read (t0 ∷ t1 ∷ t2 ∷ t3 ∷ k ∷ []) types e =
     front _ _ _ _ (number_read t0 a.0 a.1).1 (front _ _ _ _ (number_read t1 b.0 b.1).1 (front _ _ _ _ (number_read t2 c.0 c.1).1 (front _ _ _ _ (number_read t3 d.0 d.1).1 (front _ _ _ _ (number_read k j.0 j.1).1 refl)))) ∙ ap words_for same
 types_read (t0 ∷ t1 ∷ t2 ∷ t3 ∷ k ∷ more ∷ rest) types e = cc
 
-abbrev sizes_words : Header → List (List ℕ)
+abbrev sizes_words : Sizes → List (List ℕ)
 sizes_words header = decimal header.agents ∷ decimal header.lines ∷ decimal header.slices ∷ type_words header.profile header.entries header.journal
 
-sizes_read : (words : List (List ℕ)) (header : Header) → header_sizes words ≡ Some header → words ≡ sizes_words header
+sizes_read : (words : List (List ℕ)) (header : Sizes) → header_sizes words ≡ Some header → words ≡ sizes_words header
 sizes_read [] header e = cc
 sizes_read (a ∷ []) header e = cc
 sizes_read (a ∷ l ∷ []) header e = cc
@@ -58,7 +57,7 @@ sizes_read (a ∷ l ∷ s ∷ rest) header e =
     let m = bound (number_of l) _ header n.2 in
     let k = bound (number_of s) _ header m.2 in
     let t = bound (types_of rest) _ header k.2 in
-    let read : Header = record { agents = n.0; lines = m.0; slices = k.0; entries = t.0.entries; journal = t.0.journal; profile = t.0.profile } in
+    let read : Sizes = record { agents = n.0; lines = m.0; slices = k.0; entries = t.0.entries; journal = t.0.journal; profile = t.0.profile } in
     let same : read ≡ header = cc in
     front _ _ _ _ (number_read a n.0 n.1).1 (front _ _ _ _ (number_read l m.0 m.1).1 (front _ _ _ _ (number_read s k.0 k.1).1 (types_read rest t.0 t.1))) ∙ ap sizes_words same
 
@@ -67,17 +66,17 @@ let_through : {A : Type 0} (b : Bool) (found : Option A) (x : A) → cond b foun
 let_through true found x e = (refl, e)
 let_through false found x e = cc
 
-pub header_read : (words : List (List ℕ)) (header : Header) → header_of words ≡ Some header → (is_in_limits header ≡ true) × (words ≡ header_words header)
+pub header_read : (words : List (List ℕ)) (header : Sizes) → header_of words ≡ Some header → (is_in_limits header ≡ true) × (words ≡ header_words header)
 header_read [] header e = cc
 header_read (verb ∷ numbers) header e =
-    let node = let_through (is_text verb (codes "node")) (header_sizes numbers >>= header_in_limits) header e in
-    let sizes = bound (header_sizes numbers) header_in_limits header node.1 in
+    let node = let_through (is_text verb (codes "node")) (header_sizes numbers >>= config_if) header e in
+    let sizes = bound (header_sizes numbers) config_if header node.1 in
     let through = let_through (is_in_limits sizes.0) (Some sizes.0) header sizes.2 in
     let passed = through.1 in
     let is : sizes.0 ≡ header = cc in
-    (subst (λ (h : Header). is_in_limits h ≡ true) is through.0, front _ _ _ _ ((bytes_eq-Decides verb (codes "node")).0 node.0) (sizes_read numbers sizes.0 sizes.1 ∙ ap sizes_words is))
+    (subst (λ (h : Sizes). is_in_limits h ≡ true) is through.0, front _ _ _ _ ((bytes_eq-Decides verb (codes "node")).0 node.0) (sizes_read numbers sizes.0 sizes.1 ∙ ap sizes_words is))
 
-pub header_line : (line : List ℕ) (header : Header) → header_of (words_of line) ≡ Some header → IsHeaderLine header line
+pub header_line : (line : List ℕ) (header : Sizes) → header_of (words_of line) ≡ Some header → IsHeaderLine header line
 header_line line header e =
     let read = header_read (words_of line) header e in
     (read.0, sym (join_with_byte-slice_split 32 line) ∙ ap (join_with_byte 32) read.1)
@@ -112,14 +111,14 @@ types_spaceless Four entries journal few late =
     rw (few_spaceless (get_or entries 0 0) (few 0), few_spaceless (get_or entries 1 0) (few 1), few_spaceless (get_or entries 2 0) (few 2), few_spaceless (get_or entries 3 0) (few 3), few_spaceless journal late) refl
 
 -- all numbers of a header within the limits are few
-record AreFew (header : Header) : Type 0 where
+record AreFew (header : Sizes) : Type 0 where
   agents : header.agents ≤ 65536
   lines : header.lines ≤ 65536
   slices : header.slices ≤ 65536
   entries : (i : ℕ) → get_or header.entries i 0 ≤ 65536
   journal : header.journal ≤ 65536
 
-are_few : (header : Header) → is_in_limits header ≡ true → AreFew header
+are_few : (header : Sizes) → is_in_limits header ≡ true → AreFew header
 are_few header e =
     let l : IsInLimits header = limits_of header e in
     record {
@@ -130,19 +129,19 @@ are_few header e =
       journal = l.journal.1;
     }
 
-header_again : (header : Header) → is_in_limits header ≡ true → header_of (header_words header) ≡ Some header
+header_again : (header : Sizes) → is_in_limits header ≡ true → header_of (header_words header) ≡ Some header
 header_again header e =
     let few : AreFew header = are_few header e in
     let types = types_again header.profile header.entries header.journal (entries_fit header e) few.entries few.journal in
     let sizes : header_sizes (sizes_words header) ≡ Some header = rw (few_again header.agents few.agents, few_again header.lines few.lines, few_again header.slices few.slices, types) refl in
-    let through : header_in_limits header ≡ Some header = rw e refl in
-    ap (λ (found : Option Header). found >>= header_in_limits) sizes ∙ through
+    let through : config_if header ≡ Some header = rw e refl in
+    ap (λ (found : Option Sizes). found >>= config_if) sizes ∙ through
 
-header_joined : (header : Header) → is_in_limits header ≡ true → words_of (join_with_byte 32 (header_words header)) ≡ header_words header
+header_joined : (header : Sizes) → is_in_limits header ≡ true → words_of (join_with_byte 32 (header_words header)) ≡ header_words header
 header_joined header e =
     let few : AreFew header = are_few header e in
     let types = types_spaceless header.profile header.entries header.journal few.entries few.journal in
     joined_again (codes "node") (sizes_words header) (rw (few_spaceless header.agents few.agents, few_spaceless header.lines few.lines, few_spaceless header.slices few.slices, types) refl)
 
-pub header_line_again : (line : List ℕ) (header : Header) → IsHeaderLine header line → header_of (words_of line) ≡ Some header
+pub header_line_again : (line : List ℕ) (header : Sizes) → IsHeaderLine header line → header_of (words_of line) ≡ Some header
 header_line_again line header is = ap (λ (bytes : List ℕ). header_of (words_of bytes)) is.1 ∙ (ap header_of (header_joined header is.0) ∙ header_again header is.0)

@@ -1,4 +1,5 @@
 pub mod LimitLemmas
+pub mod WideLemmas
 pub mod LineLemmas
 pub mod CommandLoop
 pub mod FaultLemmas

@@ -6,9 +6,17 @@ use Rattle.std.proofs.lemmas.List.{get_or_past}
 use Rattle.std.proofs.lemmas.List.Sums.{get_or-le-sum_by}
 use Rattle.chi_flit.specs.declared.credit.Profile.{Profile}
 use Rattle.chi_flit.specs.declared.credit.Profile.TheVariants.{Two, Four}
-use Rattle.chi_script.specs.declared.headers.Header.{Header}
-use Rattle.chi_flit.specs.Config.{are_entries, are_in_limits, is_between, is_slice_count}
-use Rattle.chi_script.specs.Headers.{is_in_limits, node_sizes, IsInLimits}
+use Rattle.chi_flit.specs.Config.{Sizes, are_entries, is_between, is_slice_count}
+use Rattle.chi_script.specs.Headers.{is_in_limits}
+
+-- what the limits say of each number
+pub record IsInLimits (header : Sizes) : Type 0 where
+  pub agents : (1 ≤ header.agents) × (header.agents ≤ 8)
+  pub lines : (1 ≤ header.lines) × (header.lines ≤ 64)
+  pub slices : (1 ≤ header.slices) × (header.slices ≤ 8) × (header.slices ≤ header.lines)
+  pub entries : (1 ≤ slice_index header.entries 0) × (1 ≤ slice_index header.entries 1)
+  pub total : sum header.entries ≤ 256
+  pub journal : (1 ≤ header.journal) × (header.journal ≤ 65536)
 
 from_to : (least most n : ℕ) → is_between least most n ≡ true → (least ≤ n) × (n ≤ most)
 from_to least most n e = (grind (arith, nat_tests), grind (arith, nat_tests))
@@ -48,7 +56,7 @@ both : (a b : Bool) → (a && b) ≡ true → (a ≡ true) × (b ≡ true)
 both true b e = (refl, e)
 both false b e = cc
 
-pub limits_of : (header : Header) → is_in_limits header ≡ true → IsInLimits header
+pub limits_of : (header : Sizes) → is_in_limits header ≡ true → IsInLimits header
 limits_of header e =
     let kept = both (nat_le 1 header.journal) _ e in
     let agents = both (is_between 1 8 header.agents) _ kept.1 in
@@ -67,12 +75,8 @@ limits_of header e =
       journal = (no_more 1 header.journal kept.0, no_more header.journal 65536 journal.0);
     }
 
--- the sizes are those of a node
-pub node_in_limits : (header : Header) → is_in_limits header ≡ true → are_in_limits (node_sizes header) ≡ true
-node_in_limits header e = (both (nat_le 1 header.journal) _ e).1
-
 -- the entries are those of the profile
-pub entries_fit : (header : Header) → is_in_limits header ≡ true → are_entries header.profile header.entries ≡ true
+pub entries_fit : (header : Sizes) → is_in_limits header ≡ true → are_entries header.profile header.entries ≡ true
 entries_fit header e =
     let kept = both (nat_le 1 header.journal) _ e in
     let agents = both (is_between 1 8 header.agents) _ kept.1 in
@@ -86,7 +90,7 @@ pub none_left : (t0 t1 t2 t3 : ℕ) → are_entries Two (t0 ∷ t1 ∷ t2 ∷ t3
 none_left t0 t1 t2 t3 e = (grind (arith, nat_tests), grind (arith, nat_tests))
 
 -- each type has at most as many entries as all types together
-pub each_few : (header : Header) → is_in_limits header ≡ true → (i : ℕ) → get_or header.entries i 0 ≤ 256
+pub each_few : (header : Sizes) → is_in_limits header ≡ true → (i : ℕ) → get_or header.entries i 0 ≤ 256
 each_few header e i =
     let l : IsInLimits header = limits_of header e in
     ⊎_elim

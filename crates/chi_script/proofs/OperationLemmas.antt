@@ -7,11 +7,11 @@ use Rattle.std.proofs.lemmas.List.Splits.{join_with_byte-slice_split}
 use Rattle.std.proofs.lemmas.Slice.Eq.{bytes_eq-Decides}
 use Rattle.chi_flit.specs.declared.operation.Task.{Task}
 use Rattle.chi_flit.specs.declared.operation.Task.TheVariants.{Load, Share, Store, WriteBack, WriteClean, WriteEvict, Evict, Drop}
-use Rattle.chi_script.specs.declared.headers.Header.{Header}
-use Rattle.chi_script.specs.Headers.{is_in_limits, IsInLimits}
+use Rattle.chi_flit.specs.Config.{Sizes}
+use Rattle.chi_script.specs.Headers.{is_in_limits}
 use Rattle.chi_flit.specs.Numbers.{word_at}
 use Rattle.chi_script.specs.Words.{◌>>=◌, is_text, words_of, number_of, has_no_space}
-use Rattle.chi_script.proofs.LimitLemmas.{limits_of}
+use Rattle.chi_script.proofs.LimitLemmas.{IsInLimits, limits_of}
 use Rattle.chi_script.proofs.NumberLemmas.{number_read, number_again, bound}
 use Rattle.chi_script.proofs.SpaceLemmas.{joined_again, decimal_no_space}
 use Rattle.chi_script.specs.declared.operations.AgentOperation.{AgentOperation}
@@ -106,7 +106,7 @@ value_read verb word value task e =
 same_words : (a b c d e f : List ℕ) (g h : List (List ℕ)) → a ≡ b → c ≡ d → e ≡ f → g ≡ h → a ∷ c ∷ e ∷ g ≡ b ∷ d ∷ f ∷ h
 same_words a b c d e f g h i j k l = cc
 
-placed : (header : Header) (verb agent line : List ℕ) (behind : List (List ℕ)) (task : Task) (operation : AgentOperation) → IsTask task verb behind → operation_with header agent line task ≡ Some operation → IsInRange header operation × (verb ∷ agent ∷ line ∷ behind ≡ operation_words operation)
+placed : (header : Sizes) (verb agent line : List ℕ) (behind : List (List ℕ)) (task : Task) (operation : AgentOperation) → IsTask task verb behind → operation_with header agent line task ≡ Some operation → IsInRange header operation × (verb ∷ agent ∷ line ∷ behind ≡ operation_words operation)
 placed header verb agent line behind task operation is e =
     let n = bound (number_below header.agents agent) (λ n. number_below header.lines line >>= λ l. Some (operation_on n l task)) operation e in
     let l = bound (number_below header.lines line) (λ l. Some (operation_on n.0 l task)) operation n.2 in
@@ -116,7 +116,7 @@ placed header verb agent line behind task operation is e =
     subst (λ d. IsInRange header d × (verb ∷ agent ∷ line ∷ behind ≡ operation_words d)) same
     (record { agent = who.0; line = where_at.0; task = is.range }, same_words _ _ _ _ _ _ _ _ is.verb_is who.2 where_at.2 is.behind_is)
 
-operation_read : (header : Header) (words : List (List ℕ)) (operation : AgentOperation) → operation_of header words ≡ Some operation → IsInRange header operation × (words ≡ operation_words operation)
+operation_read : (header : Sizes) (words : List (List ℕ)) (operation : AgentOperation) → operation_of header words ≡ Some operation → IsInRange header operation × (words ≡ operation_words operation)
 operation_read header [] operation e = cc
 operation_read header (verb ∷ []) operation e = cc
 operation_read header (verb ∷ a ∷ []) operation e = cc
@@ -131,19 +131,19 @@ operation_read header (verb ∷ a ∷ b ∷ c ∷ d ∷ []) operation e =
     placed header verb a b (c ∷ d ∷ []) task.0 operation (value_read verb c d task.0 task.1) task.2
 operation_read header (verb ∷ a ∷ b ∷ c ∷ d ∷ more ∷ rest) operation e = cc
 
-pub line_read : (header : Header) (line : List ℕ) (operation : AgentOperation) → operation_of header (words_of line) ≡ Some operation → IsOperationLine header operation line
+pub line_read : (header : Sizes) (line : List ℕ) (operation : AgentOperation) → operation_of header (words_of line) ≡ Some operation → IsOperationLine header operation line
 line_read header line operation e =
     let read = operation_read header (words_of line) operation e in
     (read.0, sym (join_with_byte-slice_split 32 line) ∙ ap (join_with_byte 32) read.1)
 
 -- the agent and the line of an operation within the limits are read again
-record AreRead (header : Header) (operation : AgentOperation) : Type 0 where
+record AreRead (header : Sizes) (operation : AgentOperation) : Type 0 where
   agent : number_below header.agents (decimal operation.agent.0) ≡ Some operation.agent.0
   line : number_below header.lines (decimal operation.operation.line.0) ≡ Some operation.operation.line.0
   agent_plain : has_no_space (decimal operation.agent.0) ≡ true
   line_plain : has_no_space (decimal operation.operation.line.0) ≡ true
 
-are_read : (header : Header) (operation : AgentOperation) → is_in_limits header ≡ true → IsInRange header operation → AreRead header operation
+are_read : (header : Sizes) (operation : AgentOperation) → is_in_limits header ≡ true → IsInRange header operation → AreRead header operation
 are_read header operation limits is =
     let l : IsInLimits header = limits_of header limits in
     let agent : operation.agent.0 < 2 ^ 64 = omega (arith, l.agents.1, is.agent) in
@@ -158,7 +158,7 @@ are_read header operation limits is =
 small : (n : ℕ) → n < 8 → n < 2 ^ 64
 small n few = omega (arith, few)
 
-again : (header : Header) (n l : ℕ) (task : Task) → IsTaskInRange task → AreRead header (operation_on n l task) → operation_of header (operation_words (operation_on n l task)) ≡ Some (operation_on n l task)
+again : (header : Sizes) (n l : ℕ) (task : Task) → IsTaskInRange task → AreRead header (operation_on n l task) → operation_of header (operation_words (operation_on n l task)) ≡ Some (operation_on n l task)
 unfolding task_of
 again header n l (Load w) range read = rw (below_again 8 w.0 range (small w.0 range), read.agent, read.line) refl
 again header n l (Share w) range read = rw (below_again 8 w.0 range (small w.0 range), read.agent, read.line) refl
@@ -169,7 +169,7 @@ again header n l WriteEvict range read = rw (read.agent, read.line) refl
 again header n l Evict range read = rw (read.agent, read.line) refl
 again header n l Drop range read = rw (read.agent, read.line) refl
 
-joined : (header : Header) (n l : ℕ) (task : Task) → IsTaskInRange task → AreRead header (operation_on n l task) → words_of (join_with_byte 32 (operation_words (operation_on n l task))) ≡ operation_words (operation_on n l task)
+joined : (header : Sizes) (n l : ℕ) (task : Task) → IsTaskInRange task → AreRead header (operation_on n l task) → words_of (join_with_byte 32 (operation_words (operation_on n l task))) ≡ operation_words (operation_on n l task)
 joined header n l (Load w) range read = joined_again (codes "load") _ (rw (read.agent_plain, read.line_plain, decimal_no_space w.0 (small w.0 range)) refl)
 joined header n l (Share w) range read = joined_again (codes "share") _ (rw (read.agent_plain, read.line_plain, decimal_no_space w.0 (small w.0 range)) refl)
 joined header n l (Store w v) range read = joined_again (codes "store") _ (rw (read.agent_plain, read.line_plain, decimal_no_space w.0 (small w.0 range.0), decimal_no_space v range.1) refl)
@@ -179,7 +179,7 @@ joined header n l WriteEvict range read = joined_again (codes "writeevict") _ (r
 joined header n l Evict range read = joined_again (codes "evict") _ (rw (read.agent_plain, read.line_plain) refl)
 joined header n l Drop range read = joined_again (codes "drop") _ (rw (read.agent_plain, read.line_plain) refl)
 
-pub line_again : (header : Header) (line : List ℕ) (operation : AgentOperation) → is_in_limits header ≡ true → IsOperationLine header operation line → operation_of header (words_of line) ≡ Some operation
+pub line_again : (header : Sizes) (line : List ℕ) (operation : AgentOperation) → is_in_limits header ≡ true → IsOperationLine header operation line → operation_of header (words_of line) ≡ Some operation
 line_again header line operation limits is =
     let read = are_read header operation limits is.0 in
     ap (λ (bytes : List ℕ). operation_of header (words_of bytes)) is.1 ∙ (ap (operation_of header) (joined header operation.agent.0 operation.operation.line.0 operation.operation.task is.0.task read) ∙ again header operation.agent.0 operation.operation.line.0 operation.operation.task is.0.task read)

@@ -6,7 +6,7 @@ use Rattle.std.proofs.lemmas.List.Elements.{All-nil, All-cons}
 use Rattle.chi_script.specs.declared.commands.Command.{Command}
 use Rattle.chi_script.specs.declared.faults.Fault.{Fault}
 use Rattle.chi_script.specs.declared.faults.Fault.TheVariants.{BadHeader, BadCommand, MissingNewline, TooLarge}
-use Rattle.chi_script.specs.declared.headers.Header.{Header}
+use Rattle.chi_flit.specs.Config.{Sizes}
 use Rattle.chi_script.specs.Commands.{command_of}
 use Rattle.chi_script.specs.Files.{◌>>=◌, command_at, commands_of, file_of, header_at, lines_of, script_of as replay_of}
 use Rattle.chi_script.specs.Headers.{header_of}
@@ -49,29 +49,29 @@ replayed n line (next ∷ rest) commands e =
       unwanted = All-cons (λ (check : CheckLine). check.wanted ≡ None) (made n None one.0) later.checks refl later.unwanted;
     }
 
-no_file : (b : Bool) (f g : Fault) (x : Header × List Command) → cond b (Err f) (Err g) ≡ Ok x → ⊥
+no_file : (b : Bool) (f g : Fault) (x : Sizes × List Command) → cond b (Err f) (Err g) ≡ Ok x → ⊥
 no_file true f g x e = cc
 no_file false f g x e = cc
 
-with_header : (line next : List ℕ) (rest : List (List ℕ)) (header : Header) (checks : List CheckLine) → is_comment line ≡ false → header_at 1 line ≡ Ok header → checks_of 2 (next ∷ rest) ≡ Ok checks
+with_header : (line next : List ℕ) (rest : List (List ℕ)) (header : Sizes) (checks : List CheckLine) → is_comment line ≡ false → header_at 1 line ≡ Ok header → checks_of 2 (next ∷ rest) ≡ Ok checks
     → check_script_of 1 (line ∷ next ∷ rest) ≡ Ok (header, checks)
 unfolding check_script_of
 with_header line next rest header checks plain first later = rw (plain, first, later) refl
 
-lines_replayed : (header : Header) (commands : List Command) (lines : List (List ℕ)) → replay_of lines ≡ Ok (header, commands) → IsReplayed header commands (check_script_of 1 lines)
+lines_replayed : (header : Sizes) (commands : List Command) (lines : List (List ℕ)) → replay_of lines ≡ Ok (header, commands) → IsReplayed header commands (check_script_of 1 lines)
 unfolding check_script_of
 lines_replayed header commands [] e = cc
 lines_replayed header commands (last ∷ []) e = absurd (no_file (length last == 0) (BadHeader 1) (MissingNewline 1) (header, commands) e)
 lines_replayed header commands (line ∷ next ∷ rest) e =
     let first = bound (header_at 1 line) (λ h. commands_of 2 (next ∷ rest) >>= λ cs. Ok (h, cs)) (header, commands) e in
     let more = bound (commands_of 2 (next ∷ rest)) (λ cs. Ok (first.0, cs)) (header, commands) first.2 in
-    let same : ◌≡◌ {A = Header × List Command} (first.0, more.0) (header, commands) = let last = more.2 in cc in
+    let same : ◌≡◌ {A = Sizes × List Command} (first.0, more.0) (header, commands) = let last = more.2 in cc in
     let later = replayed 2 next rest more.0 more.1 in
     let plain = header_no_comment first.0 line (header_line line first.0 (taken (header_of (words_of line)) (BadHeader 1) first.0 first.1)) in
-    subst (λ (x : Header × List Command). IsReplayed x.0 x.1 (check_script_of 1 (line ∷ next ∷ rest))) same
+    subst (λ (x : Sizes × List Command). IsReplayed x.0 x.1 (check_script_of 1 (line ∷ next ∷ rest))) same
     (record { checks = later.checks; good = with_header line next rest first.0 later.checks plain first.1 later.good; same = later.same; unwanted = later.unwanted })
 
-fits : (b : Bool) (read : Result (Header × List Command) Fault) (x : Header × List Command) → cond b (Err TooLarge) read ≡ Ok x → (b ≡ false) × (read ≡ Ok x)
+fits : (b : Bool) (read : Result (Sizes × List Command) Fault) (x : Sizes × List Command) → cond b (Err TooLarge) read ≡ Ok x → (b ≡ false) × (read ≡ Ok x)
 fits true read x e = cc
 fits false read x e = (refl, e)
 
@@ -79,7 +79,7 @@ fits false read x e = (refl, e)
 fits_both : (n : ℕ) → nat_lt 1048576 n ≡ false → nat_lt most_check_bytes n ≡ false
 fits_both n e = grind (arith, nat_tests)
 
-pub file_replayed : (header : Header) (commands : List Command) (file : List ℕ) → file_of file ≡ Ok (header, commands) → IsReplayed header commands (check_file_of file)
+pub file_replayed : (header : Sizes) (commands : List Command) (file : List ℕ) → file_of file ≡ Ok (header, commands) → IsReplayed header commands (check_file_of file)
 unfolding file_of check_file_of
 file_replayed header commands file e =
     let size = fits (nat_lt 1048576 (length file)) (replay_of (lines_of file)) (header, commands) e in

@@ -3,7 +3,7 @@ use Rattle.std.proofs.Common.{◌≡◌, ℕ, ◌<◌, ◌≤◌, Bool, true, fa
 use Rattle.std.proofs.lemmas.List.{take_all, length-take}
 use Rattle.chi_script.specs.declared.faults.Fault.TheVariants.{TooLarge}
 use Rattle.std.proofs.lemmas.Bool.Decides.{nat_tests}
-use Rattle.chi_script.specs.declared.headers.Header.{Header}
+use Rattle.chi_flit.specs.Config.{Sizes}
 use Rattle.chi_script.specs.declared.operations.AgentOperation.{AgentOperation}
 use Rattle.chi_script.specs.declared.faults.Fault.{Fault}
 use Rattle.chi_script.specs.Faults.{Fails}
@@ -26,10 +26,10 @@ whole file line rest small e =
 pub bad_header : (fault : Fault) (file line rest : List ℕ) → length file ≤ 1048576 → lines_of file ≡ line ∷ lines_of rest → Fails fault (header_at 1 line) → Fails fault (storm_of file)
 bad_header fault file line rest small e is = rw (whole file line rest small e) (failed fault _ _ is)
 
-pub bad_operations : (fault : Fault) (file line rest : List ℕ) (header : Header) → length file ≤ 1048576 → lines_of file ≡ line ∷ lines_of rest → header_at 1 line ≡ Ok header → Fails fault (operations_from header 2 (lines_of rest)) → Fails fault (storm_of file)
+pub bad_operations : (fault : Fault) (file line rest : List ℕ) (header : Sizes) → length file ≤ 1048576 → lines_of file ≡ line ∷ lines_of rest → header_at 1 line ≡ Ok header → Fails fault (operations_from header 2 (lines_of rest)) → Fails fault (storm_of file)
 bad_operations fault file line rest header small e read is = rw (whole file line rest small e, read) (failed fault _ _ is)
 
-pub good : (file line rest : List ℕ) (header : Header) (operations : List AgentOperation) → length file ≤ 1048576 → lines_of file ≡ line ∷ lines_of rest → header_at 1 line ≡ Ok header → operations_from header 2 (lines_of rest) ≡ Ok operations → storm_of file ≡ Ok (header, operations)
+pub good : (file line rest : List ℕ) (header : Sizes) (operations : List AgentOperation) → length file ≤ 1048576 → lines_of file ≡ line ∷ lines_of rest → header_at 1 line ≡ Ok header → operations_from header 2 (lines_of rest) ≡ Ok operations → storm_of file ≡ Ok (header, operations)
 good file line rest header operations small e read all = whole file line rest small e ∙ rw (read, all) refl
 
 large : (n : ℕ) → 1048576 < n → nat_lt 1048576 n ≡ true

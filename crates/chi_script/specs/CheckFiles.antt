@@ -1,7 +1,7 @@
 -- A check file is a header and commands with comments between them, or faulty: then its first faulty line
 -- is told (docs/FORMATS.md, "Check files").
 use Rattle.std.specs.Prelude.{ℕ, ◌+◌, ◌==◌, nat_lt, List, [], ◌∷◌, ◌++◌, Result, Ok, Err, length, if◌then◌else◌, ok_or}
-use Rattle.chi_script.specs.declared.headers.Header.{Header}
+use Rattle.chi_flit.specs.Config.{Sizes}
 use Rattle.chi_script.specs.declared.faults.Fault.{Fault}
 use Rattle.chi_script.specs.declared.faults.Fault.TheVariants.{BadHeader, BadCommand, MissingNewline, TooLarge}
 use Rattle.chi_script.specs.Files.{◌>>=◌, lines_of, header_at}
@@ -33,7 +33,7 @@ checks_of n (line ∷ next ∷ rest) = do
   Ok (here ++ later)
 
 -- the header and the checks of the lines from line n on
-unfoldable pub check_script_of : ℕ → List (List ℕ) → Result (Header × List CheckLine) Fault
+unfoldable pub check_script_of : ℕ → List (List ℕ) → Result (Sizes × List CheckLine) Fault
 check_script_of n [] = Err (BadHeader n)
 check_script_of n (last ∷ []) = if length last == 0 then Err (BadHeader n) else Err (MissingNewline n)
 check_script_of n (line ∷ next ∷ rest) =
@@ -41,5 +41,5 @@ check_script_of n (line ∷ next ∷ rest) =
     else (header_at n line >>= λ header. checks_of (n + 1) (next ∷ rest) >>= λ checks. Ok (header, checks))
 
 -- a file's header and checks, or its first fault
-unfoldable pub check_file_of : List ℕ → Result (Header × List CheckLine) Fault
+unfoldable pub check_file_of : List ℕ → Result (Sizes × List CheckLine) Fault
 check_file_of file = if nat_lt most_check_bytes (length file) then Err TooLarge else check_script_of 1 (lines_of file)

@@ -3,7 +3,7 @@ use Rattle.std.specs.Prelude.{◌≡◌, ◌⊎◌, ℕ, ◌+◌, ◌≤◌, Lis
 use Rattle.std.specs.List.{All}
 use Rattle.chi_script.specs.declared.commands.Command.{Command}
 use Rattle.chi_script.specs.declared.faults.Fault.{Fault}
-use Rattle.chi_script.specs.declared.headers.Header.{Header}
+use Rattle.chi_flit.specs.Config.{Sizes}
 use Rattle.chi_script.specs.Files.{lines_of}
 use Rattle.chi_script.specs.Spelling.{IsHeaderLine, IsLine}
 use Rattle.chi_script.specs.Checks.{CheckLine, arrow}
@@ -34,7 +34,7 @@ AreChecks n checks (line ∷ lines) =
     ⊎ ((check : CheckLine) × (later : List CheckLine) × (checks ≡ check ∷ later) × IsCheckLine n check line × AreChecks (n + 1) later lines)
 
 -- the lines from line n on are comments, this header, and then comments and these checks
-abbrev pub AreHeaderAndChecks : ℕ → Header → List CheckLine → List (List ℕ) → Type 0
+abbrev pub AreHeaderAndChecks : ℕ → Sizes → List CheckLine → List (List ℕ) → Type 0
 AreHeaderAndChecks n header checks [] = ⊥
 AreHeaderAndChecks n header checks (line ∷ lines) =
     (IsComment line × AreHeaderAndChecks (n + 1) header checks lines)
@@ -42,14 +42,14 @@ AreHeaderAndChecks n header checks (line ∷ lines) =
 
 -- a file that is this header and these checks: lines with a line end behind each, and no more bytes than a
 -- check file may have
-pub record IsCheckFile (header : Header) (checks : List CheckLine) (file : List ℕ) : Type 0 where
+pub record IsCheckFile (header : Sizes) (checks : List CheckLine) (file : List ℕ) : Type 0 where
   pub size : length file ≤ most_check_bytes
   pub lines : List (List ℕ)
   pub closed : lines_of file ≡ lines ++ [] ∷ []
   pub text : AreHeaderAndChecks 1 header checks lines
 
 -- this header and checks of these commands were read, and no answer is wanted of any
-pub record IsReplayed (header : Header) (commands : List Command) (read : Result (Header × List CheckLine) Fault) : Type 0 where
+pub record IsReplayed (header : Sizes) (commands : List Command) (read : Result (Sizes × List CheckLine) Fault) : Type 0 where
   pub checks : List CheckLine
   pub good : read ≡ Ok (header, checks)
   pub same : map (λ check. check.command) checks ≡ commands

@@ -2,7 +2,7 @@
 -- "Replay files").
 use Rattle.std.specs.Prelude.{◌≡◌, ℕ, ◌+◌, ◌==◌, nat_lt, List, [], ◌∷◌, Result, Ok, Err, length, if◌then◌else◌, ok_or}
 use Rattle.std.specs.List.{slice_split}
-use Rattle.chi_script.specs.declared.headers.Header.{Header}
+use Rattle.chi_flit.specs.Config.{Sizes}
 use Rattle.chi_script.specs.declared.commands.Command.{Command}
 use Rattle.chi_script.specs.declared.faults.Fault.{Fault}
 use Rattle.chi_script.specs.declared.faults.Fault.TheVariants.{BadHeader, BadCommand, MissingNewline, TooLarge}
@@ -24,7 +24,7 @@ abbrev pub IsOneLine : List ℕ → Type 0
 IsOneLine text = lines_of text ≡ text ∷ []
 
 -- the header that line n is
-abbrev pub header_at : ℕ → List ℕ → Result Header Fault
+abbrev pub header_at : ℕ → List ℕ → Result Sizes Fault
 header_at n line = ok_or (header_of (words_of line)) (BadHeader n)
 
 -- the command that line n is
@@ -40,7 +40,7 @@ commands_of n (line ∷ next ∷ rest) = do
   commands ← commands_of (n + 1) (next ∷ rest)
   Ok (command ∷ commands)
 
-abbrev pub script_of : List (List ℕ) → Result (Header × List Command) Fault
+abbrev pub script_of : List (List ℕ) → Result (Sizes × List Command) Fault
 script_of [] = Err (BadHeader 1)
 script_of (last ∷ []) = if length last == 0 then Err (BadHeader 1) else Err (MissingNewline 1)
 script_of (line ∷ next ∷ rest) = do
@@ -49,11 +49,11 @@ script_of (line ∷ next ∷ rest) = do
   Ok (header, commands)
 
 -- a header that was read, and what is read behind it
-abbrev pub with_header : Header → Result (List Command) Fault → Result (Header × List Command) Fault
+abbrev pub with_header : Sizes → Result (List Command) Fault → Result (Sizes × List Command) Fault
 with_header header read = read >>= λ commands. Ok (header, commands)
 
 -- a file's header and commands, or its first fault
-unfoldable pub file_of : List ℕ → Result (Header × List Command) Fault
+unfoldable pub file_of : List ℕ → Result (Sizes × List Command) Fault
 file_of file = if nat_lt 1048576 (length file) then Err TooLarge else script_of (lines_of file)
 
 -- the lines behind a header are all commands

@@ -3,7 +3,7 @@
 use Rattle.std.specs.Prelude.{ℕ, nat_lt, List, [], ◌∷◌, Option, Some, None, if◌then◌else◌, codes}
 use Rattle.chi_flit.specs.declared.operation.Task.{Task}
 use Rattle.chi_flit.specs.declared.operation.Task.TheVariants.{Load, Share, Store, WriteBack, WriteClean, WriteEvict, Evict, Drop}
-use Rattle.chi_script.specs.declared.headers.Header.{Header}
+use Rattle.chi_flit.specs.Config.{Sizes}
 use Rattle.chi_flit.specs.Numbers.{agent_at, line_at, word_at}
 use Rattle.chi_script.specs.Words.{◌>>=◌, is_text, number_of, words_of}
 use Rattle.chi_script.specs.declared.operations.AgentOperation.{AgentOperation}
@@ -37,15 +37,15 @@ abbrev pub operation_on : ℕ → ℕ → Task → AgentOperation
 operation_on n l task = record { agent = agent_at n; operation = record { line = line_at l; task = task } }
 
 -- the same for an agent and a line that the header has
-abbrev pub operation_with : Header → List ℕ → List ℕ → Task → Option AgentOperation
+abbrev pub operation_with : Sizes → List ℕ → List ℕ → Task → Option AgentOperation
 operation_with header agent line task = number_below header.agents agent >>= λ n. number_below header.lines line >>= λ l. Some (operation_on n l task)
 
-abbrev pub operation_of : Header → List (List ℕ) → Option AgentOperation
+abbrev pub operation_of : Sizes → List (List ℕ) → Option AgentOperation
 operation_of header (verb ∷ agent ∷ line ∷ []) = task_of verb >>= λ task. operation_with header agent line task
 operation_of header (verb ∷ agent ∷ line ∷ word ∷ []) = task_with_word verb word >>= λ task. operation_with header agent line task
 operation_of header (verb ∷ agent ∷ line ∷ word ∷ value ∷ []) = task_with_value verb word value >>= λ task. operation_with header agent line task
 operation_of header _ = None
 
 -- the operation that a line is
-abbrev pub line_operation : Header → List ℕ → Option AgentOperation
+abbrev pub line_operation : Sizes → List ℕ → Option AgentOperation
 line_operation header line = operation_of header (words_of line)

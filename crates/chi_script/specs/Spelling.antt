@@ -11,7 +11,7 @@ use Rattle.chi_flit.specs.declared.action.Step.TheVariants.{Load, Store, Drop, I
 use Rattle.chi_flit.specs.declared.credit.CreditType.{CreditType}
 use Rattle.chi_flit.specs.declared.credit.Profile.{Profile}
 use Rattle.chi_flit.specs.declared.credit.Profile.TheVariants.{Two, Four}
-use Rattle.chi_script.specs.declared.headers.Header.{Header}
+use Rattle.chi_flit.specs.Config.{Sizes}
 use Rattle.chi_script.specs.declared.faults.Fault.{Fault}
 use Rattle.chi_script.specs.Headers.{is_in_limits}
 use Rattle.chi_script.specs.Commands.{line_command}
@@ -171,13 +171,13 @@ type_words Four entries journal =
     decimal (slice_index entries 2) ∷ decimal (slice_index entries 3) ∷ decimal journal ∷ []
 
 -- the words of a header
-abbrev pub header_words : Header → List (List ℕ)
+abbrev pub header_words : Sizes → List (List ℕ)
 header_words header =
     codes "node" ∷ decimal header.agents ∷ decimal header.lines ∷ decimal header.slices ∷
     type_words header.profile header.entries header.journal
 
 -- a header within the limits, and its one line
-abbrev pub IsHeaderLine : Header → List ℕ → Type 0
+abbrev pub IsHeaderLine : Sizes → List ℕ → Type 0
 IsHeaderLine header line = (is_in_limits header ≡ true) × (line ≡ join_with_byte 32 (header_words header))
 
 -- whatever a text is read as, it spells that

@@ -5,7 +5,7 @@ use Rattle.std.specs.List.{All, join_with_byte}
 use Rattle.std.specs.Fmt.{decimal}
 use Rattle.chi_flit.specs.declared.operation.Task.{Task}
 use Rattle.chi_flit.specs.declared.operation.Task.TheVariants.{Load, Share, Store, WriteBack, WriteClean, WriteEvict, Evict, Drop}
-use Rattle.chi_script.specs.declared.headers.Header.{Header}
+use Rattle.chi_flit.specs.Config.{Sizes}
 use Rattle.chi_script.specs.Headers.{is_in_limits}
 use Rattle.chi_script.specs.Spelling.{header_words}
 use Rattle.chi_script.specs.declared.operations.AgentOperation.{AgentOperation}
@@ -40,7 +40,7 @@ IsTaskInRange (Store w v) = (w.0 < 8) × (v < 2 ^ 64)
 IsTaskInRange _ = Unit {0}
 
 -- the header has the agent and the line, and the task's numbers are within their ranges
-pub record IsInRange (header : Header) (operation : AgentOperation) : Type 0 where
+pub record IsInRange (header : Sizes) (operation : AgentOperation) : Type 0 where
   pub agent : operation.agent.0 < header.agents
   pub line : operation.operation.line.0 < header.lines
   pub task : IsTaskInRange operation.operation.task
@@ -50,7 +50,7 @@ abbrev pub operation_line : AgentOperation → List ℕ
 operation_line operation = join_with_byte 32 (operation_words operation)
 
 -- a line that is this operation, within the header's ranges
-abbrev pub IsOperationLine : Header → AgentOperation → List ℕ → Type 0
+abbrev pub IsOperationLine : Sizes → AgentOperation → List ℕ → Type 0
 IsOperationLine header operation line = IsInRange header operation × (line ≡ operation_line operation)
 
 -- lines, with a line end behind each
@@ -59,11 +59,11 @@ closed_lines [] = []
 closed_lines (line ∷ lines) = line ++ 10 ∷ closed_lines lines
 
 -- the bytes of a header and operations
-abbrev pub storm_text : Header → List AgentOperation → List ℕ
+abbrev pub storm_text : Sizes → List AgentOperation → List ℕ
 storm_text header operations = closed_lines (join_with_byte 32 (header_words header) ∷ map operation_line operations)
 
 -- a file that is this header and these operations: within the limits, and each within the header's ranges
-pub record IsStormFile (header : Header) (operations : List AgentOperation) (file : List ℕ) : Type 0 where
+pub record IsStormFile (header : Sizes) (operations : List AgentOperation) (file : List ℕ) : Type 0 where
   pub limits : is_in_limits header ≡ true
   pub ranges : All (IsInRange header) operations
   pub size : length file ≤ 1048576

@@ -1,16 +1,15 @@
 //! A whole check file: its header and its checks, or its first fault.
 
-ghost use Rattle.std.specs.Prelude.{◌≡◌, ◌≤◌, ◌+◌, length, map, true};
+ghost use Rattle.std.specs.Prelude.{◌≡◌, ◌≤◌, ◌+◌, length, map};
 ghost use Rattle.chi_script.specs.Faults.{Gives};
 ghost use Rattle.chi_script.specs.Files.{lines_of};
-ghost use Rattle.chi_script.specs.Headers.{is_in_limits};
 ghost use Rattle.chi_script.specs.Checks.{line_of_check};
 ghost use Rattle.chi_script.specs.CheckFiles.{check_file_of, checks_of, check_script_of, most_check_bytes, with_check_line};
 
 use crate::checks::{Check, check_in, is_comment};
 use crate::faults::Fault;
 use crate::files::{first_line, header_in};
-use crate::headers::Header;
+use chi_flit::Config;
 use std::alloc::Allocator;
 
 /// The most bytes that a check file may have.
@@ -22,9 +21,8 @@ pub const MOST_CHECK_BYTES: usize = 16_777_216;
 /// Source: `docs/FORMATS.md`, "Check files".
 #[derive(Drop)]
 pub struct CheckFile<'a, A: Allocator> {
-    pub header: Header,
+    pub header: Config,
     pub checks: Vec<Check<'a>, A>,
-    pub ghost in_limits: { is_in_limits header ≡ true },
 }
 
 /// The header and the checks of a check file, which is read whole.

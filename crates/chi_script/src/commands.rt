@@ -1,8 +1,8 @@
 //! The commands of a replay file: a table for each count of words, a line for each command.
 
-ghost use Rattle.std.specs.Prelude.{◌≡◌, ◌≢◌, ◌∷◌, IfSome};
+ghost use Rattle.std.specs.Prelude.{◌≡◌, ◌≢◌, IfSome};
 ghost use Rattle.chi_script.specs.Words.{words_of};
-ghost use Rattle.chi_script.specs.Commands.{command_of, command_bare, command_one, command_two, command_step, command_with, act_at, verb_step, step_with_one, step_with_two, kind_named};
+ghost use Rattle.chi_script.specs.Commands.{command_of, command_bare, command_one, command_two, command_with, act_at, verb_step, step_with_one, step_with_two, kind_named};
 
 use crate::numbers::{number, small};
 use crate::requester_actions::RequesterAction;
@@ -72,47 +72,29 @@ fn worded_command(line: &[u8]) -> Option<Command>
 {
     match first_word(line) {
         None => bare(Verb::named(line)?),
-        Some((word, rest)) => after_one(Verb::named(word)?, rest),
+        Some((word, rest)) => with_words(Verb::named(word)?, rest),
     }
 }
 
-/// The command of a verb and what stands behind it.
-pub(crate) fn after_one(verb: Verb, rest: &[u8]) -> Option<Command>
-    ensures { result ≡ command_with verb (words_of rest.now) }
+/// The command of a verb and the words behind it.
+pub(crate) fn with_words(verb: Verb, words: &[u8]) -> Option<Command>
+    ensures { result ≡ command_with verb (words_of words.now) }
 {
+    let Some((first, rest)) = first_argument(words) else {
+        return with_one(verb, small(words)?);
+    };
+    let Some((second, rest)) = first_argument(rest) else {
+        return with_two(verb, small(first)?, small(rest)?);
+    };
+    let Some((third, rest)) = first_argument(rest) else {
+        let step = step_with_one(verb, rest)?;
+        return Some(act(small(first)?, small(second)?, step));
+    };
     match first_argument(rest) {
-        None => with_one(verb, small(rest)?),
-        Some((first, rest)) => after_two(verb, first, rest),
-    }
-}
-
-/// The command of a verb, a word and what stands behind them.
-fn after_two(verb: Verb, first: &[u8], rest: &[u8]) -> Option<Command>
-    ensures { result ≡ command_with verb (first.now ∷ words_of rest.now) }
-{
-    match first_argument(rest) {
-        None => with_two(verb, small(first)?, small(rest)?),
-        Some((second, rest)) => after_three(verb, first, second, rest),
-    }
-}
-
-/// The command of a verb, two words and what stands behind them.
-fn after_three(verb: Verb, first: &[u8], second: &[u8], rest: &[u8]) -> Option<Command>
-    ensures { result ≡ command_with verb (first.now ∷ second.now ∷ words_of rest.now) }
-{
-    match first_argument(rest) {
-        None => command_of_step(first, second, step_with_one(verb, rest)?),
-        Some((third, rest)) => after_four(verb, first, second, third, rest),
-    }
-}
-
-/// The command of a verb, three words and what stands behind them, which is one word more.
-fn after_four(verb: Verb, first: &[u8], second: &[u8], third: &[u8], rest: &[u8]) -> Option<Command>
-    ensures { result ≡ command_with verb
-        (first.now ∷ second.now ∷ third.now ∷ words_of rest.now) }
-{
-    match first_argument(rest) {
-        None => command_of_step(first, second, step_with_two(verb, third, rest)?),
+        None => {
+            let step = step_with_two(verb, third, rest)?;
+            Some(act(small(first)?, small(second)?, step))
+        }
         Some(_) => None,
     }
 }
@@ -162,15 +144,6 @@ pub(crate) fn with_two(verb: Verb, first: u8, second: u8) -> Option<Command>
         }
         _ => Some(act(first, second, step_of(verb)?)),
     }
-}
-
-/// The step of the agent and the line that two words name.
-fn command_of_step(first: &[u8], second: &[u8], step: Step) -> Option<Command>
-    requires no_admit { step ≢ Step.Admit }
-    requires no_retry { step ≢ Step.Retry }
-    ensures { result ≡ command_step first.now second.now step }
-{
-    Some(act(small(first)?, small(second)?, step))
 }
 
 /// The command that is this step of an agent on a line.

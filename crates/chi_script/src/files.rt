@@ -1,15 +1,15 @@
 //! A whole replay file: its header and its commands, or its first fault.
 
-ghost use Rattle.std.specs.Prelude.{◌≡◌, ◌<◌, ◌+◌, ◌==◌, ◌≤◌, ◌∷◌, [], length, IfErr, IfNone, IfSome, IfOk, true};
+ghost use Rattle.std.specs.Prelude.{◌≡◌, ◌<◌, ◌+◌, ◌==◌, ◌≤◌, ◌∷◌, [], length, IfErr, IfNone, IfSome, IfOk};
 ghost use Rattle.std.specs.List.{position};
-ghost use Rattle.chi_script.specs.Headers.{is_in_limits};
 ghost use Rattle.chi_script.specs.Faults.{Fails, Gives};
 ghost use Rattle.chi_script.specs.Files.{lines_of, header_at, command_at, commands_of, file_of, script_of, with_header};
 
 use crate::commands::{Command, read_command};
 use crate::faults::Fault;
-use crate::headers::{Header, read_header};
+use crate::headers::read_header;
 use crate::words::read_words;
+use chi_flit::Config;
 use memchr::memchr;
 use std::alloc::Allocator;
 
@@ -21,9 +21,8 @@ pub const MOST_BYTES: usize = 1_048_576;
 /// Source: `docs/FORMATS.md`, "Replay files".
 #[derive(Drop)]
 pub struct ReplayFile<A: Allocator> {
-    pub header: Header,
+    pub header: Config,
     pub commands: Vec<Command, A>,
-    pub ghost in_limits: { is_in_limits header ≡ true },
 }
 
 /// The header and the commands of a replay file, which is read whole.
@@ -35,9 +34,15 @@ pub struct ReplayFile<A: Allocator> {
 pub fn read_file<A: Allocator + Copy>(alloc: A, bytes: &[u8]) -> Result<ReplayFile<A>, Fault>
     ensures { Gives (λ script. (script.header, script.commands.items)) result (file_of bytes.now) }
 {
-    let (header, lines) = read_head(alloc, bytes)?;
-    let commands = read_commands(alloc, lines)?;
-    Ok(ReplayFile { header, commands })
+    // (matched, since the checker doesn't follow a `?` on what has a reference and an invariant in it)
+    match read_head(alloc, bytes) {
+        Ok(head) => {
+            let commands = read_commands(alloc, head.1)?;
+            let header = head.0;
+            Ok(ReplayFile { header, commands })
+        }
+        Err(fault) => Err(fault),
+    }
 }
 
 /// The header of a replay file, and the lines behind it, which aren't read yet: they are its commands, or
@@ -48,10 +53,9 @@ pub fn read_file<A: Allocator + Copy>(alloc: A, bytes: &[u8]) -> Result<ReplayFi
 /// `NoMemory` where memory runs out.
 /// Source: `docs/FORMATS.md`, "Replay files".
 #[tactic(auto, unfolding(crate::specs::Files::file_of))]
-pub fn read_head<A: Allocator>(alloc: A, bytes: &[u8]) -> Result<(Header, &[u8]), Fault>
+pub fn read_head<A: Allocator>(alloc: A, bytes: &[u8]) -> Result<(Config, &[u8]), Fault>
     ensures lines { IfOk result
         (λ head. file_of bytes.now ≡ with_header head.0 (commands_of 2 (lines_of head.1.now))) }
-    ensures kept { IfOk result (λ head. is_in_limits head.0 ≡ true) }
     ensures err { IfErr result (λ fault. Fails fault (file_of bytes.now)) }
 {
     if bytes.len() > MOST_BYTES {
@@ -61,10 +65,9 @@ pub fn read_head<A: Allocator>(alloc: A, bytes: &[u8]) -> Result<(Header, &[u8])
 }
 
 /// The header that line 1 is, and the lines behind it.
-fn read_first_line<A: Allocator>(alloc: A, bytes: &[u8]) -> Result<(Header, &[u8]), Fault>
+fn read_first_line<A: Allocator>(alloc: A, bytes: &[u8]) -> Result<(Config, &[u8]), Fault>
     ensures lines { IfOk result (λ head. script_of
         (lines_of bytes.now) ≡ with_header head.0 (commands_of 2 (lines_of head.1.now))) }
-    ensures kept { IfOk result (λ head. is_in_limits head.0 ≡ true) }
     ensures err { IfErr result (λ fault. Fails fault (script_of (lines_of bytes.now))) }
 {
     match first_line(bytes) {
@@ -100,9 +103,8 @@ fn read_commands<A: Allocator + Copy>(alloc: A, bytes: &[u8]) -> Result<Vec<Comm
 /// The header that a line is, which is given without its line end; its number is for the fault.
 /// `BadHeader` where it is none within the limits, and `NoMemory` where memory runs out.
 /// Source: `docs/FORMATS.md`, "Replay files", and `docs/PROTOCOL.md`, "Limits".
-pub fn header_in<A: Allocator>(alloc: A, line: &[u8], number: usize) -> Result<Header, Fault>
-    ensures read { Gives (λ header. header) result (header_at number line.now) }
-    ensures kept { IfOk result (λ header. is_in_limits header ≡ true) }
+pub fn header_in<A: Allocator>(alloc: A, line: &[u8], number: usize) -> Result<Config, Fault>
+    ensures { Gives (λ header. header) result (header_at number line.now) }
 {
     let mut words = Vec::new(alloc);
     read_words(&mut words, line)?;

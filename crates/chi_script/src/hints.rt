@@ -9,6 +9,7 @@ use crate::checks::parts;
 use crate::commands::read_kind;
 use crate::faults::Fault;
 use crate::files::first_line;
+use crate::headers::two_types;
 use crate::numbers::number;
 use crate::shown_words::ShownWord;
 use crate::words::is;
@@ -280,16 +281,18 @@ fn size_hint(words: &[u8], journal: usize, most: u64) -> Hint<'_> {
     Hint::None
 }
 
+/// Whether a node may have these sizes, with one entry of each of two types.
+fn is_node(agents: u64, lines: u64, slices: u64, journal: u64) -> bool {
+    two_types(agents, lines, slices, 1, 1, journal).is_some()
+}
+
 /// Whether a node may have this size at this place of its header, the sum of its entries aside.
 fn is_size(words: &[u8], place: usize, journal: usize, size: u64) -> bool {
     match place {
-        1 => size >= 1 && size <= 8,
-        2 => size >= 1 && size <= 64,
-        3 => {
-            let lines = number(word_at(words, 2)).unwrap_or(0);
-            matches!(size, 1 | 2 | 4 | 8) && size <= lines
-        }
-        _ if place == journal => size >= 1 && size <= 65_536,
+        1 => is_node(size, 1, 1, 1),
+        2 => is_node(1, size, 1, 1),
+        3 => is_node(1, number(word_at(words, 2)).unwrap_or(0), size, 1),
+        _ if place == journal => is_node(1, 1, 1, size),
         _ => size >= 1,
     }
 }

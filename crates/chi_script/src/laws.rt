@@ -1,8 +1,8 @@
 //! Laws of the grammars: what is read is what is written, in the words of the page on each kind of file.
 
 ghost use Rattle.std.specs.Prelude.{◌≡◌, ℕ, ◌+◌, List, take, true};
+ghost use Rattle.chi_flit.specs.Config.{Sizes};
 ghost use Rattle.chi_script.specs.declared.commands.Command.{Command};
-ghost use Rattle.chi_script.specs.declared.headers.Header.{Header};
 ghost use Rattle.chi_script.specs.Words.{number_of};
 ghost use Rattle.chi_script.specs.Headers.{is_in_limits, line_header};
 ghost use Rattle.chi_script.specs.Commands.{line_command};
@@ -83,8 +83,8 @@ pub fn check_front_is_enough()
 /// words, and its numbers are within the ranges of a header.
 /// Source: `docs/FORMATS.md`, "Storm files".
 pub fn operations_are_lines()
-    ensures read { (header : Header) → ReadsOnly (line_operation header) (IsOperationLine header) }
-    ensures again { (header : Header) → is_in_limits header ≡ true
+    ensures read { (header : Sizes) → ReadsOnly (line_operation header) (IsOperationLine header) }
+    ensures again { (header : Sizes) → is_in_limits header ≡ true
         → ReadsAll (line_operation header) (IsOperationLine header) }
 {}
 

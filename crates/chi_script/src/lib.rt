@@ -36,7 +36,7 @@ pub use faults::Fault;
 pub use files::{MOST_BYTES, ReplayFile, command_in, first_line, header_in, read_file, read_head};
 pub use fillers::{FILLER_BEGINS, FILLER_ENDS};
 pub use good_lines::check_lines;
-pub use headers::{Header, read_header};
+pub use headers::read_header;
 pub use hints::{hint_at, line_at};
 pub use laws::{
     check_files_are_lines, check_front_is_enough, checks_are_lines, commands_are_lines,

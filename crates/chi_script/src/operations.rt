@@ -4,10 +4,9 @@ ghost use Rattle.std.specs.Prelude.{◌≡◌};
 ghost use Rattle.chi_script.specs.Words.{texts_of};
 ghost use Rattle.chi_script.specs.Operations.{number_below, task_of, task_with_word, task_with_value, operation_with, operation_of};
 
-use crate::headers::Header;
 use crate::numbers::number;
 use crate::words::is;
-use chi_flit::{Agent, Line, Operation, Task, WordNo};
+use chi_flit::{Agent, Config, Line, Operation, Task, WordNo};
 
 /// One line of a storm file: an operation, and the agent in whose script it stands.
 /// Source: `docs/FORMATS.md`, "Storm files".
@@ -25,7 +24,7 @@ const WORDS: u8 = 8;
 /// unknown word, a wrong count of words, a faulty number, and an agent, a line or a word that is outside
 /// the header's ranges.
 /// Source: `docs/FORMATS.md`, "Storm files".
-pub fn read_operation(header: &Header, words: &[&[u8]]) -> Option<AgentOperation>
+pub fn read_operation(header: &Config, words: &[&[u8]]) -> Option<AgentOperation>
     ensures { result ≡ operation_of header.now (texts_of words.now) }
 {
     match words {
@@ -44,11 +43,11 @@ pub fn read_operation(header: &Header, words: &[&[u8]]) -> Option<AgentOperation
 }
 
 /// The task of the agent on the line that two words name.
-fn operation_with(header: &Header, agent: &[u8], line: &[u8], task: Task) -> Option<AgentOperation>
+fn operation_with(header: &Config, agent: &[u8], line: &[u8], task: Task) -> Option<AgentOperation>
     ensures { result ≡ operation_with header.now agent.now line.now task }
 {
-    let agent = Agent(number_below(header.agents, agent)?);
-    let line = Line(number_below(header.lines, line)?);
+    let agent = Agent(number_below(header.agents(), agent)?);
+    let line = Line(number_below(header.lines(), line)?);
     let operation = Operation { line, task };
     Some(AgentOperation { agent, operation })
 }

@@ -1,18 +1,17 @@
 //! A whole storm file: its header and its operations, or its first fault.
 
-ghost use Rattle.std.specs.Prelude.{◌≡◌, ◌≤◌, IfOk, length, true};
+ghost use Rattle.std.specs.Prelude.{◌≡◌, ◌≤◌, IfOk, length};
 ghost use Rattle.std.specs.List.{All};
 ghost use Rattle.chi_script.specs.Faults.{Gives};
 ghost use Rattle.chi_script.specs.Files.{lines_of};
-ghost use Rattle.chi_script.specs.Headers.{is_in_limits};
 ghost use Rattle.chi_script.specs.StormSpelling.{IsInRange};
 ghost use Rattle.chi_script.specs.Storms.{operation_at, operations_from, storm_of};
 
 use crate::faults::Fault;
 use crate::files::{MOST_BYTES, first_line, header_in};
-use crate::headers::Header;
 use crate::operations::{AgentOperation, read_operation};
 use crate::words::read_words;
+use chi_flit::Config;
 use std::alloc::Allocator;
 
 /// A good storm file: the sizes of the system, and the operations in the order of their lines. The
@@ -20,9 +19,8 @@ use std::alloc::Allocator;
 /// Source: `docs/FORMATS.md`, "Storm files".
 #[derive(Drop)]
 pub struct StormFile<A: Allocator> {
-    pub header: Header,
+    pub header: Config,
     pub deeds: Vec<AgentOperation, A>,
-    pub ghost in_limits: { is_in_limits header ≡ true },
 }
 
 /// The header and the operations of a storm file, which is read whole.
@@ -53,7 +51,7 @@ pub fn read_storm<A: Allocator + Copy>(alloc: A, bytes: &[u8]) -> Result<StormFi
 /// The operations of the lines from line 2 on.
 fn read_operations<A: Allocator + Copy>(
     alloc: A,
-    header: &Header,
+    header: &Config,
     bytes: &[u8],
 ) -> Result<Vec<AgentOperation, A>, Fault>
     requires { length bytes.now ≤ 1048576 }
@@ -79,7 +77,7 @@ fn read_operations<A: Allocator + Copy>(
 /// The operation that a line is; its number is for the fault. The list is room for its words.
 fn operation_in<'a, A: Allocator>(
     words: &mut Vec<&'a [u8], A>,
-    header: &Header,
+    header: &Config,
     line: &'a [u8],
     number: usize,
 ) -> Result<AgentOperation, Fault>

@@ -4,7 +4,7 @@ ghost use Rattle.std.specs.Prelude.{◌≡◌, IfSome, Some};
 ghost use Rattle.chi_script.specs.Words.{words_of};
 ghost use Rattle.chi_script.specs.Commands.{command_of, command_with};
 
-use crate::commands::{Command, after_one, with_one, with_two};
+use crate::commands::{Command, with_one, with_two, with_words};
 use crate::numbers::small;
 use crate::verbs::Verb;
 use crate::words::{first_argument, is};
@@ -70,8 +70,7 @@ fn two_numbers(line: &[u8], verb: Verb) -> Option<Command>
 fn command_with_verb(line: &[u8], verb: Verb) -> Option<Command>
     ensures { IfSome result (λ command. command_of (words_of line.now) ≡ Some command) }
 {
-    let rest = behind(line, verb)?;
-    after_one(verb, rest)
+    with_words(verb, behind(line, verb)?)
 }
 
 /// What stands behind the verb and a space, where the line begins so.

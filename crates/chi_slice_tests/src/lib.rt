@@ -1,40 +1,21 @@
-//! Tests of a slice of `chi_slice` through its public calls alone, against the tables of
-//! `docs/PROTOCOL.md`.
+//! Tests of a slice and of what is below it through their public calls, by `docs/PROTOCOL.md`: the tables of the
+//! flits, a journal, where a slice finds a request, what it is in memory and as bytes, whatever is tried on
+//! it, and the verdict on lines that no slice has.
+//!
+//! What the actions do to a line is tested by the files of `suite/` and by `tests/murphi`.
 #![tactic(auto)]
 
 #[cfg(test)]
-mod four_slices;
+mod flits;
+#[cfg(test)]
+mod journals;
 #[cfg(test)]
 mod memory;
 #[cfg(test)]
-mod moves;
-#[cfg(test)]
-mod parts;
-#[cfg(test)]
-mod readers;
-#[cfg(test)]
-mod refusals;
-#[cfg(test)]
-mod refused;
-#[cfg(test)]
-mod reloaded;
-#[cfg(test)]
-mod retries;
-#[cfg(test)]
-mod rows;
+mod places;
 #[cfg(test)]
 mod runs;
 #[cfg(test)]
-mod shown;
-#[cfg(test)]
-mod sizes;
-#[cfg(test)]
-mod slots;
-#[cfg(test)]
 mod snapshots;
 #[cfg(test)]
-mod snoops;
-#[cfg(test)]
 mod verdicts;
-#[cfg(test)]
-mod write_data;

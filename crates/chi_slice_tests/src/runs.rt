@@ -1,28 +1,23 @@
-//! Worked runs at line 0, each action with its answer.
+//! Worked runs at line 0, each action with its answer; and whatever else is tried between them leaves a slice
+//! coherent, and as it was where it is refused.
 
-use crate::moves::{LINE, answer, at, look, slice_of};
-use chi_flit::Kind::{ReadNotSharedDirty, ReadShared, ReadUnique, WriteBackFull, WriteCleanFull};
-use chi_flit::{Refusal, Slot, WordNo};
+use crate::places::done;
+use chi_flit::Kind::{
+    self, CleanUnique, Evict, ReadNotSharedDirty, ReadShared, ReadUnique, WriteBackFull,
+    WriteCleanFull, WriteEvictFull,
+};
+use chi_flit::{Agent, Effect, Line, Refusal, Slot, WordNo};
 use chi_slice::Effect::{Completed, Nothing, Value};
 use chi_slice::Step::{
-    self, Admit, Drop, Issue, Load, RecvAck, RecvData, RecvDbid, RecvSnp, RecvSnpResp, RecvWrData,
-    Start, Store,
+    self, Admit, Cancel, Drop, Issue, Load, RecvAck, RecvComp, RecvData, RecvDbid, RecvRetry,
+    RecvSnp, RecvSnpResp, RecvWrData, Resend, Retry, Start, Store,
 };
-use chi_slice::{Action, Effect, Slice};
+use chi_slice::{Config, LineView, Slice, check};
 use std::alloc::{Allocator, Global};
 use std::process::Abort;
 
 /// An agent's step at line 0, and what it is answered.
 pub type Move = (u8, Step, Result<Effect, Refusal>);
-
-/// A run of so many agents.
-#[derive(Clone, Copy)]
-pub struct Run {
-    pub agents: u8,
-    pub moves: &'static [Move],
-    /// How many of the moves are done.
-    pub done: usize,
-}
 
 const FREE: Result<Effect, Refusal> = Ok(Completed(Slot(0)));
 
@@ -86,179 +81,152 @@ pub const STORE_BEHIND_WRITE_CLEAN: [Move; 12] = [
     (0, RecvWrData, FREE),
 ];
 
-/// A ReadShared makes the dirty holder the owner, and a ReadNotSharedDirty ends it as owner.
-pub const SHARED_DIRTY_OWNER: [Move; 23] = [
-    (0, Issue(ReadUnique, Slot(0)), DONE),
+/// A resent request must be accepted.
+const RESENT: [Move; 6] = [
+    (0, Issue(ReadNotSharedDirty, Slot(0)), DONE),
+    (0, Retry, DONE),
+    (0, RecvRetry, DONE),
+    (0, Resend, DONE),
+    (0, Retry, Err(Refusal::MustAccept)),
     (0, Admit, DONE),
-    (0, Start, DONE),
-    (0, RecvData, DONE),
-    (0, RecvAck, FREE),
-    (0, Store(WordNo(0), 5), DONE),
-    (1, Issue(ReadShared, Slot(0)), DONE),
-    (1, Admit, DONE),
-    (1, Start, DONE),
-    (0, RecvSnp, DONE),
-    (0, RecvSnpResp, DONE),
-    (1, RecvData, DONE),
-    (1, Load(WordNo(0)), Ok(Value(5))),
-    (1, RecvAck, FREE),
-    (0, Store(WordNo(0), 6), Err(Refusal::WrongState)),
-    (0, Drop, Err(Refusal::WrongState)),
-    (2, Issue(ReadNotSharedDirty, Slot(0)), DONE),
-    (2, Admit, DONE),
-    (2, Start, DONE),
-    (0, RecvSnp, DONE),
-    (0, RecvSnpResp, DONE),
-    (2, RecvData, DONE),
-    (2, RecvAck, FREE),
 ];
 
-/// All of them.
-pub const RUNS: [Run; 4] = [
-    Run {
-        agents: 2,
-        moves: &DIRTY_DATA_HANDED_ON,
-        done: 14,
-    },
-    Run {
-        agents: 2,
-        moves: &SNOOP_CROSSES_WRITE_BACK,
-        done: 20,
-    },
-    Run {
-        agents: 1,
-        moves: &STORE_BEHIND_WRITE_CLEAN,
-        done: 12,
-    },
-    Run {
-        agents: 3,
-        moves: &SHARED_DIRTY_OWNER,
-        done: 21,
-    },
+/// Each run, with the agents that it takes.
+const RUNS: [(u8, &[Move]); 4] = [
+    (2, &DIRTY_DATA_HANDED_ON),
+    (2, &SNOOP_CROSSES_WRITE_BACK),
+    (1, &STORE_BEHIND_WRITE_CLEAN),
+    (1, &RESENT),
 ];
 
-/// The slice answers each move as it says, and its line is shown after it.
+/// The slice of a node of so many agents and lines, in the opening state.
+fn slice_of(rt: &impl Abort, alloc: Global, agents: u8, lines: u8) -> Slice<Global> {
+    let config = Config::new(agents, lines, 1, 2, 2, 8).expect(rt, "sizes in their limits");
+    assert!(rt; config.slices() == 1);
+    Slice::new(alloc, &config, 0).expect(rt, "memory for a slice")
+}
+
+/// The slice answers each move as it says.
 pub fn plays<A: Allocator>(rt: &impl Abort, slice: &mut Slice<A>, moves: &[Move]) {
     for (agent, step, wanted) in moves {
-        answers(rt, slice, at(*agent, *step), *wanted);
+        let found = done(slice, *agent, Line(0), *step);
+        assert!(rt; found == *wanted, "{agent} {step:?}: {found:?}");
     }
-}
-
-/// The action is answered so, and the line is shown after it.
-fn answers<A: Allocator>(
-    rt: &impl Abort,
-    slice: &mut Slice<A>,
-    action: Action,
-    wanted: Result<Effect, Refusal>,
-) {
-    let done = answer(slice, action);
-    assert!(rt;
-        done == wanted && look(slice, LINE).is_ok(),
-        "{action:?}: {done:?}"
-    );
-}
-
-/// Plays the run on a slice of its own.
-fn plays_run(rt: &impl Abort, alloc: Global, run: Run) {
-    let mut slice = slice_of(rt, alloc, run.agents, 1, 8);
-    plays(rt, &mut slice, run.moves);
 }
 
 #[test]
 fn every_move_is_answered_as_it_says(rt: HostRuntime) {
-    for run in RUNS {
-        plays_run(&rt, rt.alloc(), run);
+    for (agents, moves) in &RUNS {
+        plays(&rt, &mut slice_of(&rt, rt.alloc(), *agents, 1), moves);
     }
 }
 
-/// Adds the actions of the moves.
-fn adds(rt: &impl Abort, actions: &mut Vec<Action>, moves: &[Move]) {
-    for (agent, step, _) in moves {
-        actions
-            .push(at(*agent, *step))
-            .expect(rt, "memory for actions");
+/// Every step but a request's issue, with words inside and outside their range.
+const STEPS: [Step; 18] = [
+    Load(WordNo(0)),
+    Load(WordNo(8)),
+    Store(WordNo(0), 1),
+    Store(WordNo(8), 1),
+    Drop,
+    Admit,
+    Retry,
+    RecvRetry,
+    Resend,
+    Cancel,
+    Start,
+    RecvSnp,
+    RecvSnpResp,
+    RecvData,
+    RecvComp,
+    RecvAck,
+    RecvDbid,
+    RecvWrData,
+];
+
+const KINDS: [Kind; 8] = [
+    ReadNotSharedDirty,
+    ReadShared,
+    ReadUnique,
+    CleanUnique,
+    Evict,
+    WriteBackFull,
+    WriteCleanFull,
+    WriteEvictFull,
+];
+
+/// Slots inside and outside their range.
+const SLOTS: [u8; 3] = [0, 1, 8];
+
+/// The step of a number below 42: the steps above, and requests of each kind in each of the slots.
+fn step_of(number: usize) -> Step {
+    if number < 18 {
+        return STEPS[number];
+    }
+    let request = number - 18;
+    Issue(KINDS[request % 8], Slot(SLOTS[request / 8 % 3]))
+}
+
+/// A line as it is shown.
+fn look(slice: &Slice<Global>, line: u8) -> Result<LineView, Refusal> {
+    slice.view(Line(line))
+}
+
+/// Whether both slices show the same of both lines, and have the same journal.
+fn are_the_same(slice: &Slice<Global>, other: &Slice<Global>) -> bool {
+    look(slice, 0) == look(other, 0)
+        && look(slice, 1) == look(other, 1)
+        && slice.journal().records() == other.journal().records()
+}
+
+/// Whether the line, if it is one of the slice's, is coherent by what is shown of it.
+fn is_coherent(slice: &Slice<Global>, line: u8) -> bool {
+    match look(slice, line) {
+        Ok(view) => check(&view),
+        Err(_) => true,
     }
 }
 
-/// The actions of a run, so many times over; of those that come again some are refused.
-fn actions_of(rt: &impl Abort, alloc: Global, run: Run, times: u8) -> Vec<Action> {
-    let mut actions = Vec::new(alloc);
-    for _ in 0..times {
-        adds(rt, &mut actions, run.moves);
-    }
-    actions
-}
-
-/// Tries the actions one by one, and answers how many were done.
-fn in_turn(rt: &impl Abort, alloc: Global, slice: &mut Slice<Global>, actions: &[Action]) -> usize {
-    let mut answers = Vec::new(alloc);
-    for action in actions {
-        answers
-            .push(answer(slice, *action))
-            .expect(rt, "memory for answers");
-    }
-    answers.iter().filter(|answer| answer.is_ok()).count()
-}
-
-/// How many of the actions a run does.
-fn done_by(slice: &mut Slice<Global>, actions: &[Action]) -> usize {
-    slice.run(actions)
-}
-
-/// Whether both slices show the same, and have the same journal.
-fn are_alike(one: &Slice<Global>, other: &Slice<Global>) -> bool {
-    look(one, LINE) == look(other, LINE) && one.journal().records() == other.journal().records()
-}
-
-/// The actions at once do as many, and leave the slice as the other is, on which they were tried one by one.
-fn does_alike(
-    rt: &impl Abort,
-    slice: &mut Slice<Global>,
-    one_by_one: &Slice<Global>,
-    actions: &[Action],
-    done: usize,
-) {
-    let found = done_by(slice, actions);
+/// Tries the action of a number below 252 on a copy of the slice: a step of one of three agents at one of two
+/// lines, which may be outside the node.
+fn tries(rt: &impl Abort, alloc: Global, begun: &Slice<Global>, number: usize) {
+    let mut slice = begun.clone_in(alloc).expect(rt, "memory for a copy");
+    let (agent, line, step) = (number % 3, number / 3 % 2, step_of(number / 6));
+    let refused = done(&mut slice, agent as u8, Line(line as u8), step).is_err();
     assert!(rt;
-        found == done && are_alike(slice, one_by_one),
-        "{found} done"
+        is_coherent(&slice, 0) && is_coherent(&slice, 1),
+        "{agent} {line} {step:?}"
+    );
+    assert!(rt;
+        !refused || are_the_same(&slice, begun),
+        "{agent} {line} {step:?}"
     );
 }
 
-/// The actions at once and one by one: as many are done, some are not, and the slices are alike.
-fn runs_alike(rt: &impl Abort, alloc: Global, run: Run, actions: &[Action]) {
-    let mut at_once = slice_of(rt, alloc, run.agents, 1, 8);
-    let mut one_by_one = slice_of(rt, alloc, run.agents, 1, 8);
-    let done = in_turn(rt, alloc, &mut one_by_one, actions);
-    assert!(rt; done < actions.len());
-    does_alike(rt, &mut at_once, &one_by_one, actions, done);
-    does_alike(rt, &mut at_once, &one_by_one, &[], 0);
-}
-
-/// The run's actions, twice over, leave at once what they leave in turn.
-fn runs_twice(rt: &impl Abort, alloc: Global, run: Run) {
-    let actions = actions_of(rt, alloc, run, 2);
-    runs_alike(rt, alloc, run, &actions);
-}
-
-#[test]
-fn a_run_leaves_what_its_actions_leave_in_turn(rt: HostRuntime) {
-    for run in RUNS {
-        runs_twice(&rt, rt.alloc(), run);
+/// Tries every action.
+fn tries_all(rt: &impl Abort, alloc: Global, begun: &Slice<Global>) {
+    for number in 0..252 {
+        tries(rt, alloc, begun, number);
     }
 }
 
-/// The run counts what it does.
-fn counts(rt: &impl Abort, alloc: Global, run: Run) {
-    let actions = actions_of(rt, alloc, run, 1);
-    let mut slice = slice_of(rt, alloc, run.agents, 1, 8);
-    let done = done_by(&mut slice, &actions);
-    assert!(rt; done == run.done, "{done} done");
+/// Tries every action after each beginning of the moves.
+fn tries_along(rt: &impl Abort, alloc: Global, mut slice: Slice<Global>, moves: &[Move]) {
+    tries_all(rt, alloc, &slice);
+    for (agent, step, _) in moves {
+        done(&mut slice, *agent, Line(0), *step).ok();
+        tries_all(rt, alloc, &slice);
+    }
 }
 
 #[test]
-fn a_run_counts_what_was_done(rt: HostRuntime) {
-    for run in RUNS {
-        counts(&rt, rt.alloc(), run);
+fn what_is_refused_changes_nothing(rt: HostRuntime) {
+    for (agents, moves) in &RUNS {
+        tries_along(
+            &rt,
+            rt.alloc(),
+            slice_of(&rt, rt.alloc(), *agents, 1),
+            moves,
+        );
+        tries_along(&rt, rt.alloc(), slice_of(&rt, rt.alloc(), 3, 2), moves);
     }
 }

@@ -1,121 +1,78 @@
-//! Verdicts on plain data, against `docs/PROTOCOL.md`, "Coherence".
+//! Verdicts on lines, most of which no slice has, against `docs/PROTOCOL.md`, "Coherence".
 
-use crate::four_slices::OPENING;
-use crate::moves::{does, slice_of, view};
-use chi_flit::{DatUp, Kind, NO_DATA, Slot, State, Step, WordNo};
-use chi_slice::{Config, LineView, Slice, check, check_slice};
-use std::alloc::Global;
-use std::process::Abort;
+use chi_flit::DatUp::{self, CopyBackWrData, SnpRespDataIPD};
+use chi_flit::NO_DATA;
+use chi_flit::State::{self, I, SC, SD, UC, UD};
+use chi_slice::{Cells, CopyView, LineView, Serving, check};
 
-/// Two agents hold the line in these states, with its last values, and are named.
-fn held(first: State, second: State) -> LineView {
-    let mut view = OPENING;
+/// A line whose last words are all 0, with copies of agents 2 and 5: their states; word 7 of the second copy;
+/// whether its holder is named; word 0 of the memory; and data of agent 1 on its way to the home.
+type Held = (State, State, u64, bool, u64, Option<DatUp>);
+
+/// Whether each is coherent.
+const LINES: [(Held, bool); 26] = [
+    ((I, I, 0, true, 0, None), true),
+    ((SC, SC, 0, true, 0, None), true),
+    ((SC, SD, 0, true, 0, None), true),
+    ((I, UC, 0, true, 0, None), true),
+    ((UD, I, 0, true, 0, None), true),
+    // nothing stands beside a unique copy, and no two copies are SD
+    ((UC, SC, 0, true, 0, None), false),
+    ((SC, UC, 0, true, 0, None), false),
+    ((UC, UC, 0, true, 0, None), false),
+    ((UC, UD, 0, true, 0, None), false),
+    ((UD, UC, 0, true, 0, None), false),
+    ((UD, UD, 0, true, 0, None), false),
+    ((SC, UD, 0, true, 0, None), false),
+    ((UD, SC, 0, true, 0, None), false),
+    ((SD, UC, 0, true, 0, None), false),
+    ((UD, SD, 0, true, 0, None), false),
+    ((SD, SD, 0, true, 0, None), false),
+    // a holder is named, and has the last words
+    ((SC, SC, 0, false, 0, None), false),
+    ((UC, I, 1, false, 0, None), true),
+    ((SD, SC, 1, true, 0, None), false),
+    ((I, UD, 1, true, 0, None), false),
+    // memory has them too, where nothing dirty is there or on its way
+    ((SC, SC, 0, true, 1, None), false),
+    ((I, UC, 0, true, 1, None), false),
+    ((SC, SD, 0, true, 1, None), true),
+    ((I, UD, 0, true, 1, None), true),
+    ((I, I, 0, true, 1, Some(SnpRespDataIPD(NO_DATA))), true),
+    ((I, I, 0, true, 1, Some(CopyBackWrData(SC, NO_DATA))), false),
+];
+
+/// The line as plain data.
+fn view_of(held: &Held) -> LineView {
+    let (first, second, word, named, memory, data) = *held;
+    let mut view = LineView {
+        copies: [CopyView::NONE; 8],
+        pending: [None; 8],
+        memory: [memory, 0, 0, 0, 0, 0, 0, 0],
+        named: [false, false, true, false, false, named, false, false],
+        unique: false,
+        owner: None,
+        serving: Serving::Idle,
+        awaited: [false; 8],
+        waiting: [None; 8],
+        flits: [Cells::new(); 8],
+        last: NO_DATA,
+    };
     view.copies[2].state = first;
     view.copies[5].state = second;
-    view.named[2] = true;
-    view.named[5] = true;
+    view.copies[5].words = [0, 0, 0, 0, 0, 0, 0, word];
+    view.flits[1].dat_up = data;
     view
 }
 
-/// Whether the copies may stand together.
-fn passes(rt: &impl Abort, first: State, second: State, wanted: bool) {
-    assert!(rt;
-        check(&held(first, second)) == wanted,
-        "{first:?} and {second:?}"
-    );
+/// Whether the line is found coherent.
+fn is_coherent(held: &Held) -> bool {
+    check(&view_of(held))
 }
 
 #[test]
-fn passes_copies_that_may_stand_together(rt: HostRuntime) {
-    assert!(rt; check(&OPENING));
-    passes(&rt, State::SC, State::SC, true);
-    passes(&rt, State::SC, State::SD, true);
-    passes(&rt, State::I, State::UC, true);
-    passes(&rt, State::UD, State::I, true);
-}
-
-/// No copy may stand beside a unique one, before it or after it.
-fn fails_beside(rt: &impl Abort, unique: State) {
-    for other in [State::SC, State::UC, State::UD, State::SD] {
-        passes(rt, unique, other, false);
-        passes(rt, other, unique, false);
-    }
-}
-
-#[test]
-fn fails_a_unique_copy_beside_another(rt: HostRuntime) {
-    for unique in [State::UC, State::UD] {
-        fails_beside(&rt, unique);
-    }
-    passes(&rt, State::SD, State::SD, false);
-}
-
-#[test]
-fn fails_a_holder_that_is_not_named(rt: HostRuntime) {
-    let mut view = held(State::SC, State::SC);
-    view.named[5] = false;
-    assert!(rt; !check(&view));
-}
-
-#[test]
-fn fails_old_values(rt: HostRuntime) {
-    let mut copy = held(State::SC, State::SD);
-    copy.copies[2].words[7] = 1;
-    assert!(rt; !check(&copy));
-
-    let mut memory = held(State::SC, State::SC);
-    memory.memory[0] = 1;
-    assert!(rt; !check(&memory));
-
-    let mut shared_dirty = held(State::SC, State::SD);
-    shared_dirty.memory[0] = 1;
-    assert!(rt; check(&shared_dirty));
-}
-
-#[test]
-fn lets_memory_wait_for_dirty_data(rt: HostRuntime) {
-    let mut held_dirty = held(State::I, State::UD);
-    held_dirty.memory[3] = 9;
-    assert!(rt; check(&held_dirty));
-
-    let mut on_its_way = OPENING;
-    on_its_way.memory[3] = 9;
-    assert!(rt; !check(&on_its_way));
-    on_its_way.flits[1].dat_up = Some(DatUp::SnpRespDataIPD(NO_DATA));
-    assert!(rt; check(&on_its_way));
-    on_its_way.flits[1].dat_up = Some(DatUp::CopyBackWrData(State::SC, NO_DATA));
-    assert!(rt; !check(&on_its_way));
-}
-
-/// A read and a store.
-const STORES: [Step; 6] = [
-    Step::Issue(Kind::ReadUnique, Slot(0)),
-    Step::Admit,
-    Step::Start,
-    Step::RecvData,
-    Step::RecvAck,
-    Step::Store(WordNo(2), 5),
-];
-
-/// Agent 1 does the step, and line 0 and the slice pass.
-fn passes_after(rt: &impl Abort, slice: &mut Slice<Global>, step: Step) {
-    does(rt, slice, 1, step);
-    assert!(rt; check(&view(rt, slice)) && check_slice(slice), "{step:?}");
-}
-
-#[test]
-fn passes_what_a_slice_shows(rt: HostRuntime) {
-    let mut slice = slice_of(&rt, rt.alloc(), 2, 1, 4);
-    for step in &STORES {
-        passes_after(&rt, &mut slice, *step);
-    }
-}
-
-#[test]
-fn passes_a_slice_that_has_some_of_the_lines(rt: HostRuntime) {
-    let config = Config::new(1, 5, 2, 1, 1, 4).expect(&rt, "sizes in their limits");
-    for index in 0..2 {
-        let slice = Slice::new(rt.alloc(), &config, index).expect(&rt, "memory for a slice");
-        assert!(rt; check_slice(&slice));
+fn a_line_is_coherent_by_its_copies_filter_and_memory(rt: HostRuntime) {
+    for (held, coherent) in &LINES {
+        assert!(rt; is_coherent(held) == *coherent, "{held:?}");
     }
 }

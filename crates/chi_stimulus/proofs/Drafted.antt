@@ -3,11 +3,9 @@ use Rattle.std.proofs.Common.{◌≡◌, ℕ, ◌%◌, ◌<◌, nat_lt, List, []
 use Rattle.chi_flit.specs.Numbers.{agent_at}
 use Rattle.chi_flit.specs.declared.credit.Profile.{Profile}
 use Rattle.chi_flit.specs.declared.credit.Profile.TheVariants.{Two, Four}
-use Rattle.chi_script.specs.declared.headers.Header.{Header}
 use Rattle.chi_script.specs.declared.commands.Command.TheVariants.{See}
-use Rattle.chi_script.specs.Headers.{IsInLimits, is_in_limits, node_sizes}
-use Rattle.chi_script.proofs.LimitLemmas.{limits_of}
-use Rattle.chi_slice.specs.Words.{Sizes}
+use Rattle.chi_flit.specs.Config.{Sizes, are_in_limits}
+use Rattle.chi_slice.proofs.Rows.{InLimits, in_limits}
 use Rattle.chi_node.specs.Words.{PortView, TableId}
 use Rattle.chi_node.specs.System.{SystemState, opening_system}
 use Rattle.chi_replay.specs.Session.{ports_of}
@@ -22,20 +20,20 @@ use Rattle.chi_stimulus.specs.Goes.{DrawingState, Follows, Goes, IsBlank, IsPlan
 use Rattle.chi_stimulus.specs.Lots.{past_word, seeded, word_now}
 use Rattle.chi_stimulus.proofs.Tracks.{ends_so, goes_from, goes_then, may_track}
 
--- the ranges of a header within the limits
+-- the ranges of sizes within the limits
 some_types : (profile : Profile) → 0 < types_in profile
 some_types Two = search arith
 some_types Four = search arith
 
-pub is_plan : (header : Header) (options : DrawOptions) → is_in_limits header ≡ true → IsPlan (plan_of header options)
+pub is_plan : (header : Sizes) (options : DrawOptions) → are_in_limits header ≡ true → IsPlan (plan_of header options)
 is_plan header options is =
-    let limits : IsInLimits header = limits_of header is in
+    let limits : InLimits header = in_limits header is in
     record {
-      agents = omega (arith, limits.agents.0);
-      lines = omega (arith, limits.lines.0);
+      agents = omega (arith, limits.some_agent);
+      lines = omega (arith, limits.some_line);
       types = some_types header.profile;
-      few_agents = omega (arith, limits.agents.1);
-      few_lines = omega (arith, limits.lines.1);
+      few_agents = omega (arith, limits.agents);
+      few_lines = omega (arith, limits.lines);
     }
 
 -- a new node, as a drawing begins with it
@@ -97,30 +95,29 @@ goes_unremarked d none = ([], by d.done none)
     by false e = (refl, refl)
 
 -- from a new node
-blank_is : (line : List ℕ) (header : Header) (seed : ℕ) (d : DrawingState) (is : IsBlank line (node_sizes header) seed d) → as_drawn d ≡ blank line header seed
+blank_is : (line : List ℕ) (header : Sizes) (seed : ℕ) (d : DrawingState) (is : IsBlank line header seed d) → as_drawn d ≡ blank line header seed
 blank_is line header seed d is =
-    ap as_drawn is.1 ∙ ap (λ (m : Machine). record { state = m; words = seeded seed; count = 0; text = line ++ (10 ∷ []); done = false }) (opening_machine (node_sizes header) is.0 (opening_system (node_sizes header) is.0) refl)
+    ap as_drawn is.1 ∙ ap (λ (m : Machine). record { state = m; words = seeded seed; count = 0; text = line ++ (10 ∷ []); done = false }) (opening_machine header is.0 (opening_system header is.0) refl)
 
-ports_are : (line : List ℕ) (header : Header) (seed : ℕ) (d : DrawingState) (is : IsBlank line (node_sizes header) seed d) → ports_of d.system ≡ opening_ports (node_sizes header)
-ports_are line header seed d is = opening_views (node_sizes header) is.0 d.system (ap (λ (x : DrawingState). x.system) is.1)
+ports_are : (line : List ℕ) (header : Sizes) (seed : ℕ) (d : DrawingState) (is : IsBlank line header seed d) → ports_of d.system ≡ opening_ports header
+ports_are line header seed d is = opening_views header is.0 d.system (ap (λ (x : DrawingState). x.system) is.1)
 
 -- to the text
-pub drawn_so : (line : List ℕ) (header : Header) (options : DrawOptions) (config : Sizes) (plan : Plan) (begun added new : DrawingState) (text : List ℕ)
-    → config ≡ node_sizes header → plan ≡ plan_of header options → IsBlank line config options.seed begun
+pub drawn_so : (line : List ℕ) (header : Sizes) (options : DrawOptions) (plan : Plan) (begun added new : DrawingState) (text : List ℕ)
+    → plan ≡ plan_of header options → IsBlank line header options.seed begun
     → Goes (for_each options.commands (λ n. adding plan)) begun added → Goes (settling_if options.drain plan) added new → text ≡ new.text → IsDrawnBy line header options text
-drawn_so line header options config plan begun added new text sizes planned opens adds settles ends =
+drawn_so line header options plan begun added new text planned open_so adds settles ends =
     let p = plan_of header options in
-    let open_so : IsBlank line (node_sizes header) options.seed begun = subst (λ (c : Sizes). IsBlank line c options.seed begun) sizes opens in
     let adds_so : Goes (for_each options.commands (λ n. adding (plan_of header options))) begun added = subst (λ (q : Plan). Goes (for_each options.commands (λ n. adding q)) begun added) planned adds in
     let settles_so : Goes (settling_if options.drain (plan_of header options)) added new = subst (λ (q : Plan). Goes (settling_if options.drain q) added new) planned settles in
     let all : Goes (λ d. and_then (for_each options.commands (λ n. adding (plan_of header options)) d) (settling_if options.drain (plan_of header options))) begun new =
     goes_then (for_each options.commands (λ n. adding (plan_of header options))) (settling_if options.drain (plan_of header options)) begun added new adds_so settles_so in
     let here : Follows (drafting line header options) (ports_of begun.system) all.0 (as_drawn new) (ports_of new.system) =
     subst (λ (d : Drawn). Follows (and_then (for_each options.commands (λ n. adding (plan_of header options)) d) (settling_if options.drain (plan_of header options))) (ports_of begun.system) all.0 (as_drawn new) (ports_of new.system)) (blank_is line header options.seed begun open_so) all.1 in
-    let followed : Follows (drafting line header options) (opening_ports (node_sizes header)) all.0 (as_drawn new) (ports_of new.system) =
+    let followed : Follows (drafting line header options) (opening_ports header) all.0 (as_drawn new) (ports_of new.system) =
     subst (λ (ports : List PortView). Follows (drafting line header options) ports all.0 (as_drawn new) (ports_of new.system)) (ports_are line header options.seed begun open_so) here in
     record {
       tracked = all.0;
-      allowed = may_track (drafting line header options) (opening_ports (node_sizes header)) all.0 (as_drawn new) (ports_of new.system) followed;
-      same = ends ∙ ap (λ (d : Drawn). d.text) (ends_so (drafting line header options) (opening_ports (node_sizes header)) all.0 (as_drawn new) (ports_of new.system) followed);
+      allowed = may_track (drafting line header options) (opening_ports header) all.0 (as_drawn new) (ports_of new.system) followed;
+      same = ends ∙ ap (λ (d : Drawn). d.text) (ends_so (drafting line header options) (opening_ports header) all.0 (as_drawn new) (ports_of new.system) followed);
     }

@@ -8,11 +8,11 @@ use Rattle.std.specs.List.{filter}
 use Rattle.std.specs.Str.{bytes_eq}
 use Rattle.chi_script.specs.declared.commands.Command.{Command}
 use Rattle.chi_script.specs.declared.faults.Fault.{Fault}
-use Rattle.chi_script.specs.declared.headers.Header.{Header}
+use Rattle.chi_flit.specs.Config.{Sizes}
 use Rattle.chi_script.specs.declared.checks.Check.{Check}
 use Rattle.chi_script.specs.Checks.{CheckLine, line_of_check}
 use Rattle.chi_script.specs.CheckFiles.{check_file_of}
-use Rattle.chi_script.specs.Headers.{line_header, node_sizes}
+use Rattle.chi_script.specs.Headers.{line_header}
 use Rattle.chi_replay.specs.Checks.{IsCheckReport, commands_in}
 use Rattle.chi_replay.specs.Reports.{CheckedAnswer, checked_answers, differing, differs}
 use Rattle.chi_replay.specs.Turns.{machine_at_start}
@@ -86,27 +86,27 @@ no_refusals (check ∷ checks) (answer ∷ answers) are same =
     let w : check.wanted ≡ Some answer = head_is check.wanted answer (wanted_of checks) answers same in
     All-cons IsNoRefusal answer answers (no_refusal answer (told_plain answer check.wanted w (All-head (IsTold false) check checks are))) (no_refusals checks answers (All-tail (IsTold false) check checks are) (rest_is check.wanted answer (wanted_of checks) answers same))
 
-abbrev header_read : Header → Result (Header × List CheckLine) Fault → Header
+abbrev header_read : Sizes → Result (Sizes × List CheckLine) Fault → Sizes
 header_read other (Ok read) = read.0
 header_read other (Err fault) = other
 
-abbrev checks_read : Result (Header × List CheckLine) Fault → List CheckLine
+abbrev checks_read : Result (Sizes × List CheckLine) Fault → List CheckLine
 checks_read (Ok read) = read.1
 checks_read (Err fault) = []
 
-same_header : (file : List ℕ) (a b : Header) (cs ds : List CheckLine) → check_file_of file ≡ Ok (a, cs) → check_file_of file ≡ Ok (b, ds) → a ≡ b
+same_header : (file : List ℕ) (a b : Sizes) (cs ds : List CheckLine) → check_file_of file ≡ Ok (a, cs) → check_file_of file ≡ Ok (b, ds) → a ≡ b
 same_header file a b cs ds e f = ap (header_read a) (sym e ∙ f)
 
-same_checks : (file : List ℕ) (a b : Header) (cs ds : List CheckLine) → check_file_of file ≡ Ok (a, cs) → check_file_of file ≡ Ok (b, ds) → cs ≡ ds
+same_checks : (file : List ℕ) (a b : Sizes) (cs ds : List CheckLine) → check_file_of file ≡ Ok (a, cs) → check_file_of file ≡ Ok (b, ds) → cs ≡ ds
 same_checks file a b cs ds e f = ap checks_read (sym e ∙ f)
 
 -- all of it together
-drawn_of : (header : Header) (options : DrawOptions) (file report line : List ℕ) (read : Header) (checks : List CheckLine) (is : IsCheckReport file true report)
+drawn_of : (header : Sizes) (options : DrawOptions) (file report line : List ℕ) (read : Sizes) (checks : List CheckLine) (is : IsCheckReport file true report)
     → check_file_of file ≡ Ok (read, checks) → read ≡ header → HasCommands options (length checks) → AreTold (nat_lt 0 options.wild) checks → line_header line ≡ Some header → IsDrawnBy line header options file → IsStimulus line options file
 drawn_of header options file report line read checks is good same count told says drawn =
     let heads : is.answered.header ≡ read = same_header file is.answered.header read is.checks checks is.answered.good good in
     let both : is.checks ≡ checks = same_checks file is.answered.header read is.checks checks is.answered.good good in
-    let as_many : length is.answers ≡ length is.checks = ap length is.answered.lines ∙ (one_each (machine_at_start (node_sizes is.answered.header)) (commands_in is.checks) is.answered.replayed.answers ∙ length-map is.checks (λ (check : CheckLine). check.command)) in
+    let as_many : length is.answers ≡ length is.checks = ap length is.answered.lines ∙ (one_each (machine_at_start is.answered.header) (commands_in is.checks) is.answered.replayed.answers ∙ length-map is.checks (λ (check : CheckLine). check.command)) in
     let are : AreTold (nat_lt 0 options.wild) is.checks = subst (λ (cs : List CheckLine). AreTold (nat_lt 0 options.wild) cs) (sym both) told in
     let answers_are : wanted_of is.checks ≡ map Some is.answers = all_told (nat_lt 0 options.wild) is.checks is.answers as_many are (is.verdict.0 refl) in
     record {
@@ -117,20 +117,20 @@ drawn_of header options file report line read checks is good same count told say
       told = answers_are;
       count = subst (λ (cs : List CheckLine). HasCommands options (length cs)) (sym both) count;
       enabled = λ none. no_refusals is.checks is.answers (subst (λ (w : ℕ). AreTold (nat_lt 0 w) is.checks) none are) answers_are;
-      drawn = subst (λ (h : Header). IsDrawnBy line h options file) (sym same ∙ sym heads) drawn;
+      drawn = subst (λ (h : Sizes). IsDrawnBy line h options file) (sym same ∙ sym heads) drawn;
     }
 
 -- what is so of the checks that were read is so of their lines
 of_read : (wild : Bool) (checks : List Check) → All (λ check. is_told wild (line_of_check check).wanted ≡ true) checks → AreTold wild (map line_of_check checks)
 of_read wild checks are = All-map (IsTold wild) line_of_check checks are
 
-drawn_if : (hold : Bool) (header : Header) (options : DrawOptions) (file : List ℕ) (read : Header) (checks : List Check) → check_file_of file ≡ Ok (read, map line_of_check checks) → read ≡ header → HasCommands options (length checks) → All (λ check. is_told (nat_lt 0 options.wild) (line_of_check check).wanted ≡ true) checks
+drawn_if : (hold : Bool) (header : Sizes) (options : DrawOptions) (file : List ℕ) (read : Sizes) (checks : List Check) → check_file_of file ≡ Ok (read, map line_of_check checks) → read ≡ header → HasCommands options (length checks) → All (λ check. is_told (nat_lt 0 options.wild) (line_of_check check).wanted ≡ true) checks
     → (report : List ℕ) × IsCheckReport file hold report → IsTrue hold → IsDrawn header options file
 drawn_if true header options file read checks good same count told found e line says drawn =
     drawn_of header options file found.0 line read (map line_of_check checks) found.1 good same (subst (λ (n : ℕ). HasCommands options n) (sym (length-map checks line_of_check)) count) (of_read (nat_lt 0 options.wild) checks told) says drawn
 drawn_if false header options file read checks good same count told found e line says drawn = absurd (cc (e))
 
-pub is_drawn : {E : Type 0} (result : Result Bool E) (fits : Bool) (header : Header) (options : DrawOptions) (file : List ℕ) (read : Header) (checks : List Check) → check_file_of file ≡ Ok (read, map line_of_check checks) → fits ≡ true
+pub is_drawn : {E : Type 0} (result : Result Bool E) (fits : Bool) (header : Sizes) (options : DrawOptions) (file : List ℕ) (read : Sizes) (checks : List Check) → check_file_of file ≡ Ok (read, map line_of_check checks) → fits ≡ true
     → (fits ≡ true → read ≡ header) → (fits ≡ true → HasCommands options (length checks)) → (fits ≡ true → All (λ check. is_told (nat_lt 0 options.wild) (line_of_check check).wanted ≡ true) checks)
     → IfOk result (λ hold. (report : List ℕ) × IsCheckReport file hold report) → IfOk result (λ good. IsTrue good → IsDrawn header options file)
 is_drawn (Ok hold) fits header options file read checks good is same count told found = drawn_if hold header options file read checks good (same is) (count is) (told is) found

@@ -4,7 +4,7 @@ use Rattle.std.specs.Io.KnownBytes.{Appends, Keeps}
 use Rattle.chi_script.specs.Devices.{AppendsFront}
 use Rattle.chi_script.specs.declared.faults.Fault.{Fault}
 use Rattle.chi_script.specs.declared.faults.Fault.TheVariants as faults
-use Rattle.chi_script.specs.declared.headers.Header.{Header}
+use Rattle.chi_flit.specs.Config.{Sizes}
 use Rattle.chi_script.specs.Headers.{line_header}
 use Rattle.chi_stimulus.specs.declared.options.DrawOptions.{DrawOptions}
 use Rattle.chi_stimulus.specs.Drafts.{IsDrawnBy}
@@ -21,20 +21,20 @@ is_told wild None = false
 is_told wild (Some answer) = wild || is_plain answer
 
 -- what is found of a text: it is as it should be, for each line that says these sizes and that it was drawn for
-abbrev pub IsDrawn : Header → DrawOptions → List ℕ → Type 0
+abbrev pub IsDrawn : Sizes → DrawOptions → List ℕ → Type 0
 IsDrawn header options file = (line : List ℕ) → line_header line ≡ Some header → IsDrawnBy line header options file → IsStimulus line options file
 
 -- the line says these sizes
-abbrev pub SaysSizes : List ℕ → Header → Type 0
+abbrev pub SaysSizes : List ℕ → Sizes → Type 0
 SaysSizes line header = line_header line ≡ Some header
 
 -- one such file was written for the line, if it says these sizes, or nothing
-abbrev pub WritesDrawn : List ℕ → Header → DrawOptions → Option (List ℕ) → Option (List ℕ) → Bool → Type 0
+abbrev pub WritesDrawn : List ℕ → Sizes → DrawOptions → Option (List ℕ) → Option (List ℕ) → Bool → Type 0
 WritesDrawn line header options old new true = (file : List ℕ) × (SaysSizes line header → IsStimulus line options file) × Appends old new file
 WritesDrawn line header options old new false = Keeps old new
 
 -- a beginning of one such file was written
-abbrev pub WritesDrawnFront : List ℕ → Header → DrawOptions → Option (List ℕ) → Option (List ℕ) → Type 0
+abbrev pub WritesDrawnFront : List ℕ → Sizes → DrawOptions → Option (List ℕ) → Option (List ℕ) → Type 0
 WritesDrawnFront line header options old new = (file : List ℕ) × (SaysSizes line header → IsStimulus line options file) × AppendsFront old new file
 
 -- a fault of a second pass, and of writing
@@ -48,7 +48,7 @@ IsOutputFault (faults.MissingNewline number) = ⊥
 IsOutputFault faults.Read = ⊥
 
 -- the same, or the file that is drawn for the header is too large
-abbrev pub IsDrawFault : List ℕ → Header → DrawOptions → Fault → Type 0
+abbrev pub IsDrawFault : List ℕ → Sizes → DrawOptions → Fault → Type 0
 IsDrawFault line header options faults.NoMemory = Unit {0}
 IsDrawFault line header options faults.Write = Unit {0}
 IsDrawFault line header options faults.TooLarge = IsDrawnTooLarge line header options

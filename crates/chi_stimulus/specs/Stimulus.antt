@@ -5,7 +5,7 @@ use Rattle.chi_flit.specs.declared.refusal.Refusal.{Refusal}
 use Rattle.chi_replay.specs.Replies.{refused_text}
 use Rattle.chi_script.specs.declared.faults.Fault.{Fault}
 use Rattle.chi_script.specs.declared.faults.Fault.TheVariants as faults
-use Rattle.chi_script.specs.declared.headers.Header.{Header}
+use Rattle.chi_flit.specs.Config.{Sizes}
 use Rattle.chi_script.specs.CheckFiles.{most_check_bytes}
 use Rattle.chi_script.specs.Checks.{CheckLine}
 use Rattle.chi_script.specs.Headers.{line_header}
@@ -46,7 +46,7 @@ abbrev pub WritesStimulusFront : List ℕ → DrawOptions → Option (List ℕ) 
 WritesStimulusFront line options old new = (file : List ℕ) × IsStimulus line options file × AppendsFront old new file
 
 -- there are more commands than lines of 14 bytes in a check file, or the file that is drawn is larger than one may be
-abbrev pub IsDrawnTooLarge : List ℕ → Header → DrawOptions → Type 0
+abbrev pub IsDrawnTooLarge : List ℕ → Sizes → DrawOptions → Type 0
 IsDrawnTooLarge line header options =
     (most_check_bytes / 14 < options.commands) ⊎ ((file : List ℕ) × IsDrawnBy line header options file × (most_check_bytes < length file))
 
@@ -55,7 +55,7 @@ IsDrawnTooLarge line header options =
 abbrev pub NoStimulus : List ℕ → DrawOptions → Fault → Type 0
 NoStimulus line options (faults.BadHeader number) = (line_header line ≡ None) × (number ≡ 1)
 NoStimulus line options faults.NoMemory = Unit {0}
-NoStimulus line options faults.TooLarge = (header : Header) × (line_header line ≡ Some header) × IsDrawnTooLarge line header options
+NoStimulus line options faults.TooLarge = (header : Sizes) × (line_header line ≡ Some header) × IsDrawnTooLarge line header options
 NoStimulus line options faults.Write = Unit {0}
 NoStimulus line options (faults.BadCommand number) = ⊥
 NoStimulus line options (faults.MissingNewline number) = ⊥

@@ -2,7 +2,7 @@
 use Rattle.std.specs.Prelude.{ℕ, ◌+◌, ◌==◌, ◌||◌, Bool, true, false, List, [], ◌∷◌, ◌++◌, Option, Some, None, length, nat_lt, replicate, slice_index_or, slice_set, sum, if◌then◌else◌}
 use Rattle.std.specs.List.{slice_split}
 use Rattle.chi_script.specs.Checks.{is_comment}
-use Rattle.chi_script.specs.Headers.{is_from}
+use Rattle.chi_flit.specs.Config.{is_between}
 use Rattle.chi_script.specs.Words.{◌>>=◌, number_of, words_of}
 use Rattle.chi_flit.specs.declared.kind.Kind.{Kind}
 use Rattle.chi_flit.specs.Kind.{kind_number}
@@ -21,7 +21,7 @@ drawn (Some verb) = if nat_lt (verb_place verb) 19 then Some verb else None
 
 -- a weight is a number of a replay file from 0 to 1,000
 abbrev pub weight_in : List ℕ → Option ℕ
-weight_in word = number_of word >>= λ n. if is_from 0 1000 n then Some n else None
+weight_in word = number_of word >>= λ n. if is_between 0 1000 n then Some n else None
 
 -- what has a weight: a verb, or a kind of request
 abbrev pub weighed_or : Option Verb → Option Kind → Option Weighed

@@ -1,14 +1,13 @@
 //! What stays the same while commands are drawn.
 
-ghost use Rattle.std.specs.Prelude.{◌≡◌, true};
-ghost use Rattle.chi_script.specs.Headers.{is_in_limits};
+ghost use Rattle.std.specs.Prelude.{◌≡◌};
 ghost use Rattle.chi_stimulus.specs.Drafts.{plan_of, types_in, weights_in};
 ghost use Rattle.chi_stimulus.specs.Goes.{IsPlan};
 
 use crate::options::DrawOptions;
 use crate::weights::Weights;
 use chi_flit::Profile;
-use chi_script::Header;
+use chi_slice::Config;
 
 /// How many proposals are tried for a command by weights, and as many without.
 const TRIES: u32 = 1000;
@@ -55,15 +54,14 @@ fn weights_in(weights: Option<Weights>) -> Weights
 impl Plan {
     /// The plan for a node of these sizes, by the options.
     #[tactic(auto, using(crate::proofs::Drafted::is_plan))]
-    pub(crate) fn new(header: &Header, options: &DrawOptions) -> Plan
-        requires { is_in_limits header.now ≡ true }
-        ensures is { result ≡ plan_of header.now options.now }
+    pub(crate) fn new(sizes: &Config, options: &DrawOptions) -> Plan
+        ensures is { result ≡ plan_of sizes.now options.now }
         ensures ranges { IsPlan result }
     {
         Plan {
-            agents: header.agents,
-            lines: header.lines,
-            types: types_in(header.profile),
+            agents: sizes.agents(),
+            lines: sizes.lines(),
+            types: types_in(sizes.profile()),
             wild: options.wild,
             weights: weights_in(options.weights),
             tries: TRIES,

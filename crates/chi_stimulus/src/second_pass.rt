@@ -10,7 +10,8 @@ ghost use Rattle.chi_stimulus.specs.SecondPass.{IsDrawn, is_plain, is_told};
 use crate::options::DrawOptions;
 use chi_flit::NoMemory;
 use chi_replay::check;
-use chi_script::{Check, CheckFile, Fault, Header, MemoryInput, MemoryOutput, read_checks};
+use chi_script::{Check, CheckFile, Fault, MemoryInput, MemoryOutput, read_checks};
+use chi_slice::Config;
 use std::alloc::Allocator;
 
 /// Whether all wanted answers of a text are those that its commands give. It was read as a check file before, so only
@@ -67,14 +68,15 @@ fn is_count(options: &DrawOptions, count: usize) -> bool
 }
 
 /// Whether two headers are the same.
-fn is_same(read: &Header, wanted: &Header) -> bool
+#[tactic(auto, using(chi_flit::proofs::Equal::sizes))]
+fn is_same(read: &Config, wanted: &Config) -> bool
     ensures { IsTrue result → read.now ≡ wanted.now }
 {
-    *read == *wanted
+    read == wanted
 }
 
 /// Whether a file that was read has this header, and commands as they were asked for.
-fn fits<A: Allocator>(script: &CheckFile<'_, A>, header: &Header, options: &DrawOptions) -> bool
+fn fits<A: Allocator>(script: &CheckFile<'_, A>, header: &Config, options: &DrawOptions) -> bool
     ensures same { IsTrue result → script.now.header ≡ header.now }
     ensures count { IsTrue result → HasCommands options.now (length script.now.checks.items) }
     ensures told { IsTrue result
@@ -93,7 +95,7 @@ fn fits<A: Allocator>(script: &CheckFile<'_, A>, header: &Header, options: &Draw
 /// Whether the text, whose lines are these, is what was drawn for that header, by the options.
 fn is_good_script<A: Allocator + Copy>(
     alloc: A,
-    header: &Header,
+    header: &Config,
     options: &DrawOptions,
     text: &[u8],
     script: &CheckFile<'_, A>,
@@ -111,7 +113,7 @@ fn is_good_script<A: Allocator + Copy>(
 /// Whether the text is what was drawn for that header, by the options.
 pub(crate) fn is_good<A: Allocator + Copy>(
     alloc: A,
-    header: &Header,
+    header: &Config,
     options: &DrawOptions,
     text: &[u8],
 ) -> Result<bool, NoMemory>

@@ -1,8 +1,8 @@
 //! From a header and options to the file that is written.
 
-ghost use Rattle.std.specs.Prelude.{◌≡◌, ◌≢◌, ◌+◌, ◌^◌, ◌<◌, ◌⊎◌, IfErr, IfOk, Err, None, Some, string_bytes, true};
+ghost use Rattle.std.specs.Prelude.{◌≡◌, ◌≢◌, ◌+◌, ◌^◌, ◌<◌, ◌⊎◌, IfErr, IfOk, Err, None, Some, string_bytes};
 ghost use Rattle.std.specs.Io.KnownBytes.{Keeps};
-ghost use Rattle.chi_script.specs.Headers.{is_in_limits, line_header};
+ghost use Rattle.chi_script.specs.Headers.{line_header};
 ghost use Rattle.chi_replay.specs.Replays.{AtWrite};
 ghost use Rattle.chi_stimulus.specs.Drafts.{IsDrawnBy};
 ghost use Rattle.chi_stimulus.specs.SecondPass.{IsDrawFault, IsOutputFault, NoHeader, WritesDrawn, WritesDrawnFront};
@@ -13,8 +13,8 @@ use crate::options::DrawOptions;
 use crate::plan::Plan;
 use crate::second_pass::is_good;
 use chi_flit::NoMemory;
-use chi_replay::config_of;
-use chi_script::{Failed, Fault, Header, MOST_CHECK_BYTES, Output, header_in};
+use chi_script::{Failed, Fault, MOST_CHECK_BYTES, Output, header_in};
+use chi_slice::Config;
 use std::alloc::Allocator;
 
 /// The fewest bytes of a command with its answer and its line end, as `snp 0 0 -> ok`.
@@ -24,16 +24,14 @@ const LEAST_BYTES: u64 = 14;
 fn drawn_text<A: Allocator + Copy>(
     alloc: A,
     line: &str,
-    header: &Header,
+    sizes: &Config,
     options: &DrawOptions,
 ) -> Result<String<A>, NoMemory>
-    requires { is_in_limits header.now ≡ true }
     ensures { IfOk result
-        (λ text. IsDrawnBy line.now header.now options.now (string_bytes text)) }
+        (λ text. IsDrawnBy line.now sizes.now options.now (string_bytes text)) }
 {
-    let config = config_of(header);
-    let plan = Plan::new(header, options);
-    let mut drawing = Drawing::new(alloc, line, &config, options.seed)?;
+    let plan = Plan::new(sizes, options);
+    let mut drawing = Drawing::new(alloc, line, sizes, options.seed)?;
     drawing.add_all(&plan, options.commands)?;
     drawing.settle_if(&plan, options.drain)?;
     Ok(drawing.into_text())
@@ -43,7 +41,7 @@ fn drawn_text<A: Allocator + Copy>(
 fn hand_out<A: Allocator + Copy, O: Output>(
     alloc: A,
     line: &str,
-    sizes: &Header,
+    sizes: &Config,
     options: &DrawOptions,
     text: &[u8],
     output: &mut O,
@@ -74,12 +72,11 @@ fn hand_out<A: Allocator + Copy, O: Output>(
 fn draw_for<A: Allocator + Copy, O: Output>(
     alloc: A,
     line: &str,
-    sizes: &Header,
+    sizes: &Config,
     options: &DrawOptions,
     output: &mut O,
 ) -> Result<bool, Fault>
     requires writes { O.failures output.old + 1 < 2 ^ 64 }
-    requires limits { is_in_limits sizes.now ≡ true }
     ensures ok { IfOk result
         (WritesDrawn line.now sizes.now options.now (O.written output.old) (O.written output.new)) }
     ensures write { AtWrite result (O.failures output.new ≡ O.failures output.old + 1) }
@@ -102,9 +99,8 @@ fn draw_for<A: Allocator + Copy, O: Output>(
 
 /// The sizes that a header says; `BadHeader` of line 1 where it says none within the limits.
 #[tactic(auto, using(crate::proofs::Headlines::header_is, crate::proofs::Headlines::no_header))]
-fn sizes_of<A: Allocator>(alloc: A, header: &str) -> Result<Header, Fault>
+fn sizes_of<A: Allocator>(alloc: A, header: &str) -> Result<Config, Fault>
     ensures ok { IfOk result (λ sizes. line_header header.now ≡ Some sizes) }
-    ensures limits { IfOk result (λ sizes. is_in_limits sizes ≡ true) }
     ensures err { IfErr result (NoHeader header.now) }
 {
     header_in(alloc, header.as_bytes(), 1)

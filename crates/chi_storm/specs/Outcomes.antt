@@ -1,7 +1,7 @@
 -- The four lines of a storm (docs/FORMATS.md, "The output of a storm").
 use Rattle.std.specs.Prelude.{ℕ, List, [], ◌∷◌, ◌++◌, codes}
 use Rattle.std.specs.Fmt.{decimal}
-use Rattle.chi_replay.specs.Replies.{storm_totals_text, verdict_text}
+use Rattle.chi_replay.specs.Replies.{totals_text, verdict_text}
 use Rattle.chi_storm.specs.declared.outcome.Outcome.{Outcome}
 
 -- how many of the agents finished their scripts
@@ -17,4 +17,4 @@ verdict_line o = codes "verdict " ++ verdict_text o.coherent
 
 -- each line with its end
 abbrev pub outcome_text : Outcome → List ℕ
-outcome_text o = agents_line o ++ (10 ∷ (loads_line o ++ (10 ∷ (storm_totals_text o.holdings.0 ++ (10 ∷ (verdict_line o ++ (10 ∷ [])))))))
+outcome_text o = agents_line o ++ (10 ∷ (loads_line o ++ (10 ∷ (totals_text o.holdings ++ (10 ∷ (verdict_line o ++ (10 ∷ [])))))))

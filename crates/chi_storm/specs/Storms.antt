@@ -1,20 +1,19 @@
 -- What a storm writes (docs/FORMATS.md, "Storm files" and "The output of a storm").
-use Rattle.std.specs.Prelude.{◌≡◌, ◌↔◌, ℕ, ◌+◌, List, Bool, IfSome, IsTrue, Option, Ok}
+use Rattle.std.specs.Prelude.{◌≡◌, ◌↔◌, ℕ, ◌+◌, List, map, Bool, IfSome, IsTrue, Option, Ok}
 use Rattle.std.specs.Io.KnownBytes.{Appends, Keeps}
 use Rattle.chi_audit.specs.declared.reports.Report.{Report}
 use Rattle.chi_script.specs.Devices.{AppendsFront}
-use Rattle.chi_script.specs.declared.headers.Header.{Header}
 use Rattle.chi_script.specs.declared.faults.Fault.{Fault}
 use Rattle.chi_script.specs.declared.faults.Fault.TheVariants.{NoMemory, Write}
 use Rattle.chi_slice.specs.Words.{Sizes}
-use Rattle.chi_node.specs.Requester.{RequesterState}
 use Rattle.chi_node.specs.Parts.{opening_requesters}
 use Rattle.chi_node.specs.Words.{shape_of}
 use Rattle.chi_node.specs.Node.{AreOwn, NodeState}
+use Rattle.chi_agent.specs.Ended.{report_of, requester_of}
+use Rattle.chi_agent.specs.declared.ended.AgentResult.{AgentResult}
 use Rattle.chi_agent.specs.Runs.{starts, AllLeave, KeepsTold, Start}
 use Rattle.chi_script.specs.declared.operations.AgentOperation.{AgentOperation}
 use Rattle.chi_script.specs.Storms.{storm_of}
-use Rattle.chi_script.specs.Headers.{node_sizes}
 use Rattle.chi_storm.specs.declared.outcome.Outcome.{Outcome}
 use Rattle.chi_storm.specs.Outcomes.{outcome_text}
 use Rattle.chi_storm.specs.Scripts.{scripts_below}
@@ -25,27 +24,25 @@ use Rattle.chi_storm.specs.Verdicts.{IsOutcome}
 abbrev pub storm_starts : NodeState → List AgentOperation → ℕ → ℕ → List Start
 storm_starts n deeds seed turns = starts n.config seed turns (opening_requesters n.tracker.table n.tracker.shape n.config.agents) (scripts_below n.config.agents deeds)
 
--- what came of a node of this size whose agents played these scripts: each agent's requester, the report that it
--- told, which is the one that was kept, and whether it met refusal 11
+-- what came of a node of this size whose agents played these scripts: each agent's result, and the reports that
+-- were kept, which are the agents' own
 pub record ComesOf (config : Sizes) (deeds : List AgentOperation) (seed turns : ℕ) (o : Outcome) : Type 0 where
   pub node : NodeState
-  pub requesters : List RequesterState
-  pub told : List Report
+  pub results : List AgentResult
   pub kept : List (Option Report)
-  pub not_open : List Bool
   pub sizes : node.config ≡ config
   pub shape : node.tracker.shape ≡ shape_of config.entries config.agents
-  pub own : AreOwn node requesters
-  pub lives : AllLeave (storm_starts node deeds seed turns) requesters told not_open
-  pub as_told : KeepsTold config.agents told kept
-  pub outcome : IsOutcome node requesters kept not_open o
+  pub own : AreOwn node (map requester_of results)
+  pub lives : AllLeave (storm_starts node deeds seed turns) results
+  pub as_told : KeepsTold config.agents (map report_of results) kept
+  pub outcome : IsOutcome node results kept o
 
 -- a good file, and what came of its scripts on a node of its header's size
 pub record IsStormOf (file : List ℕ) (seed turns : ℕ) (o : Outcome) : Type 0 where
-  pub header : Header
+  pub header : Sizes
   pub deeds : List AgentOperation
   pub good : storm_of file ≡ Ok (header, deeds)
-  pub comes : ComesOf (node_sizes header) deeds seed turns o
+  pub comes : ComesOf header deeds seed turns o
 
 -- the four lines of such an outcome were written, no more; whether each agent's script finished
 pub record IsWritten (file : List ℕ) (seed turns : ℕ) (all : Bool) (old new : Option (List ℕ)) : Type 0 where

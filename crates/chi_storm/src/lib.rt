@@ -11,4 +11,4 @@ mod verdict;
 pub use outcome::Outcome;
 pub use scripts::agent_script;
 pub use storms::storm;
-pub use verdict::{outcome_from, outcome_of, verdict_of};
+pub use verdict::{outcome_from, outcome_of};

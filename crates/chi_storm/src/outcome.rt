@@ -2,7 +2,7 @@
 
 ghost use Rattle.chi_storm.specs.Outcomes.{outcome_text};
 
-use chi_replay::{Printable, StormTotals, verdict_word};
+use chi_replay::{NodeTotals, Printable, verdict_word};
 use std::alloc::{AllocError, Allocator};
 
 /// What came of a storm: how many agents there were and how many finished their scripts, the loads and
@@ -15,7 +15,7 @@ pub struct Outcome {
     pub finished: u8,
     pub loads: u64,
     pub stores: u64,
-    pub holdings: StormTotals,
+    pub holdings: NodeTotals,
     pub coherent: bool,
 }
 

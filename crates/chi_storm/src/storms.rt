@@ -15,7 +15,7 @@ use crate::verdict::outcome_of;
 use chi_agent::{OpenGate, run_agents};
 use chi_flit::NoMemory;
 use chi_node::Node;
-use chi_replay::{Printable, config_of};
+use chi_replay::Printable;
 use chi_script::{AgentOperation, Failed, Fault, Input, Output, StormFile, read_all, read_storm};
 use chi_slice::Config;
 use std::alloc::Global;
@@ -57,9 +57,8 @@ fn outcome_in<R: Threads + Wait + Clock + Sync>(
     ensures ok { IfOk result (IsStormOf bytes.now seed turns) }
     ensures err { IfErr result (λ fault. Fails fault (storm_of bytes.now)) }
 {
-    let StormFile { header, deeds, .. } = read_storm(alloc, bytes)?;
-    let config = config_of(&header);
-    match outcome_on(rt, alloc, &config, &deeds, seed, turns) {
+    let StormFile { header, deeds } = read_storm(alloc, bytes)?;
+    match outcome_on(rt, alloc, &header, &deeds, seed, turns) {
         Ok(outcome) => Ok(outcome),
         Err(_) => Err(Fault::NoMemory),
     }

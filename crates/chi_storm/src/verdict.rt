@@ -1,15 +1,16 @@
 //! The verdict on a storm.
 
-ghost use Rattle.std.specs.Prelude.{◌≡◌, ◌<◌, ◌↔◌, IsTrue, length};
+ghost use Rattle.std.specs.Prelude.{◌≡◌, ◌<◌, ◌↔◌, IsTrue, length, map};
+ghost use Rattle.chi_agent.specs.Ended.{requester_of};
 ghost use Rattle.chi_node.specs.Node.{AreOwn, IsSliceOf};
-ghost use Rattle.chi_storm.specs.Verdicts.{AreAllOpen, IsGoodSo, IsOutcome, IsOutcomeOf, SeenAt, SeenToAgree, finished_in, is_finished};
+ghost use Rattle.chi_storm.specs.Verdicts.{AreAllOpen, IsOutcome, IsOutcomeOf, SeenAt, SeenToAgree, finished_in, is_finished};
 
 use crate::outcome::Outcome;
-use chi_agent::Ended;
+use chi_agent::{AgentResult, Ended, requesters_of};
 use chi_audit::Report;
 use chi_flit::Line;
 use chi_node::{Counts, Node, Requester, agree_with};
-use chi_replay::{StormTotals, totals_told};
+use chi_replay::NodeTotals;
 use chi_slice::{Config, Slice, audit_of};
 use std::alloc::Allocator;
 use std::sync::Wait;
@@ -38,12 +39,12 @@ fn is_finished(report: Option<Report>) -> bool
 }
 
 /// Whether no agent met refusal 11.
-fn are_all_open(not_open: &[bool]) -> bool
-    ensures { IsTrue result ↔ AreAllOpen not_open.now }
+fn are_all_open(results: &[AgentResult]) -> bool
+    ensures { IsTrue result ↔ AreAllOpen results.now }
 {
     let mut open = true;
-    for met in not_open {
-        open &= !*met;
+    for left in results {
+        open &= !left.not_open;
     }
     open
 }
@@ -91,21 +92,10 @@ fn all_agree<R: Wait, A: Allocator>(rt: &R, node: &Node<A>, requesters: &[Reques
     agree
 }
 
-/// The verdict on a storm: whether its slices are coherent, each requester agrees with each slice, and no
-/// agent met refusal 11.
-/// Source: `docs/FORMATS.md`, "The output of a storm".
-#[tactic(auto, using(crate::proofs::Judged::good_so))]
-pub fn verdict_of(coherent: bool, agree: bool, not_open: &[bool]) -> bool
-    ensures { IsTrue result ↔ IsGoodSo coherent agree not_open.now }
-{
-    let all_open = are_all_open(not_open);
-    coherent & agree & all_open
-}
-
 /// The outcome of slices that are those of a node of that size, of what the words of its tracker held, and of
 /// what its agents told: loads and stores are those in the journals of these slices, and the verdict is
-/// `coherent` exactly where each of these slices is coherent, its journal legal, the requesters agree, and no
-/// agent met refusal 11. Takes no memory.
+/// `coherent` exactly where each of these slices is coherent, its journal legal, and the flags say that the
+/// requesters agree and that no agent met refusal 11. Takes no memory.
 ///
 /// Condition: there are as many slices as the size says.
 /// Source: `docs/FORMATS.md`, "The output of a storm".
@@ -114,21 +104,22 @@ pub fn outcome_from<A: Allocator>(
     slices: &[Slice<A>],
     counts: Counts,
     agree: bool,
+    all_open: bool,
     reports: &[Option<Report>; 8],
-    not_open: &[bool],
 ) -> Outcome
     requires { length slices.now ≡ config.now.slices }
-    ensures { IsOutcomeOf config.now slices.now counts agree reports.now not_open.now result }
+    ensures { IsOutcomeOf config.now slices.now counts agree all_open reports.now result }
 {
     let agents = config.agents();
+    let profile = config.profile();
     let audit = audit_of(slices);
     Outcome {
         agents,
         finished: finished_in(reports),
         loads: audit.loads,
         stores: audit.stores,
-        holdings: StormTotals(totals_told(counts, config.profile())),
-        coherent: verdict_of(audit.coherent, agree, not_open),
+        holdings: NodeTotals { counts, profile },
+        coherent: audit.coherent & agree & all_open,
     }
 }
 
@@ -138,26 +129,25 @@ pub fn outcome_from<A: Allocator>(
 /// Condition: the requesters are all that the node gave.
 /// Source: `docs/FORMATS.md`, "The output of a storm".
 pub fn outcome_of<R: Wait, A: Allocator>(rt: &R, node: Node<A>, ended: Ended) -> Outcome
-    requires { AreOwn node ended.requesters.items }
-    ensures { IsOutcome node ended.requesters.items
-        ended.gathered.reports ended.not_open.items result }
+    requires { AreOwn node (map requester_of ended.results.items) }
+    ensures { IsOutcome node ended.results.items ended.gathered.reports result }
 {
     let config = *node.config();
     let Ended {
-        requesters,
-        not_open,
+        results,
         gathered,
         ..
     } = ended;
+    let all_open = are_all_open(results.as_slice());
+    let requesters = requesters_of(results);
     let agree = all_agree(rt, &node, requesters.as_slice());
     let (slices, totals) = node.close(requesters);
-    let met = not_open.as_slice();
     outcome_from(
         &config,
         &slices,
         totals.counts,
         agree,
+        all_open,
         &gathered.reports,
-        met,
     )
 }

@@ -1,12 +1,9 @@
-//! Tests of storms: the four lines of files of scripts, with devices that fail too, and the verdict.
+//! Tests of storms: the text of files of scripts, with devices that fail too, and storms in which a slice is
+//! exchanged.
 //!
 //! Source: `docs/FORMATS.md`, "Storm files" and "The output of a storm".
 #![tactic(auto)]
 
-#[cfg(test)]
-mod comparison;
-#[cfg(test)]
-mod devices;
 #[cfg(test)]
 mod scripts;
 #[cfg(test)]

@@ -1,29 +1,11 @@
-//! The four lines of storms.
+//! Storms through the text that they write, and with devices that fail.
 
-use crate::comparison::same;
-use chi_script::{MemoryInput, MemoryOutput};
+use chi_script::{Fault, MemoryInput, MemoryOutput};
 use chi_storm::storm;
 use std::process::Abort;
 use std::sync::Wait;
 use std::thread::Threads;
 use std::time::Clock;
-
-/// The file has these lines with this seed and so many turns, whether all of its scripts finished being the
-/// answer.
-fn ends(
-    rt: &(impl Abort + AllocGlobal + Threads + Wait + Clock + Sync),
-    file: &[u8],
-    seed: u64,
-    turns: u64,
-    text: &[u8],
-    all: bool,
-) {
-    let mut input = MemoryInput::new(file, 1_000);
-    let mut output = MemoryOutput::new(rt.alloc(), 1_000);
-    let done = storm(rt, rt.alloc(), &mut input, &mut output, seed, turns);
-    same(rt, done, Ok(all));
-    assert!(rt; output.bytes() == text);
-}
 
 /// Eight agents, each of which stores to a line, writes it back, and loads and drops its neighbour's.
 const EIGHT_AGENTS: &[u8] =
@@ -31,13 +13,6 @@ const EIGHT_AGENTS: &[u8] =
 
 const EIGHT_AGENTS_TEXT: &[u8] =
     b"agents 8 finished 8\nloads 8 stores 8\nfree 1 1 hand 0 0 promised 0 0 owed 0 0\nverdict coherent\n";
-
-#[test]
-fn eight_agents_finish_with_any_seed(rt: HostRuntime) {
-    for seed in 1..=20 {
-        ends(&rt, EIGHT_AGENTS, seed, 10_000_000, EIGHT_AGENTS_TEXT, true);
-    }
-}
 
 /// The journal has room for one record, and the script has two.
 const FULL_JOURNAL: &[u8] = b"node 1 1 1 1 1 1\nstore 0 0 0 1\nload 0 0 0\n";
@@ -60,25 +35,6 @@ const ONE_LINE: &[u8] =
 const ONE_LINE_TEXT: &[u8] =
     b"agents 8 finished 8\nloads 8 stores 8\nfree 1 1 hand 0 0 promised 0 0 owed 0 0\nverdict coherent\n";
 
-/// No script at all.
-const NO_SCRIPT: &[u8] = b"node 2 2 1 1 1 16\n";
-
-const NO_SCRIPT_TEXT: &[u8] =
-    b"agents 2 finished 2\nloads 0 stores 0\nfree 1 1 hand 0 0 promised 0 0 owed 0 0\nverdict coherent\n";
-
-#[test]
-fn storms_end_with_their_lines(rt: HostRuntime) {
-    let storms: [(&[u8], &[u8], bool); 4] = [
-        (FULL_JOURNAL, FULL_JOURNAL_TEXT, false),
-        (EACH_OPERATION, EACH_OPERATION_TEXT, true),
-        (ONE_LINE, ONE_LINE_TEXT, true),
-        (NO_SCRIPT, NO_SCRIPT_TEXT, true),
-    ];
-    for (file, text, all) in storms {
-        ends(&rt, file, 7, 10_000_000, text, all);
-    }
-}
-
 /// One agent that loads. In its first four turns the request is issued, arrives and is started, and its data
 /// comes; in the fifth it loads, and the CompAck is still in flight.
 const ONE_LOAD: &[u8] = b"node 1 1 1 1 1 4\nload 0 0 0\n";
@@ -89,8 +45,73 @@ const FOUR_TURNS_TEXT: &[u8] =
 const FIVE_TURNS_TEXT: &[u8] =
     b"agents 1 finished 1\nloads 1 stores 0\nfree 0 1 hand 1 0 promised 0 0 owed 0 0\nverdict coherent\n";
 
+/// No script at all.
+const NO_SCRIPT: &[u8] = b"node 2 2 1 1 1 16\n";
+
+const NO_SCRIPT_TEXT: &[u8] =
+    b"agents 2 finished 2\nloads 0 stores 0\nfree 1 1 hand 0 0 promised 0 0 owed 0 0\nverdict coherent\n";
+
+/// A file, the most turns of an agent, the text of its storm, and whether all of its scripts finish.
+type Storm = (&'static [u8], u64, &'static [u8], bool);
+
+const STORMS: [Storm; 6] = [
+    (EIGHT_AGENTS, 10_000_000, EIGHT_AGENTS_TEXT, true),
+    (FULL_JOURNAL, 10_000_000, FULL_JOURNAL_TEXT, false),
+    (EACH_OPERATION, 10_000_000, EACH_OPERATION_TEXT, true),
+    (ONE_LOAD, 4, FOUR_TURNS_TEXT, false),
+    (ONE_LOAD, 5, FIVE_TURNS_TEXT, true),
+    (NO_SCRIPT, 1, NO_SCRIPT_TEXT, true),
+];
+
+/// Files that are faulty, and the fault of each.
+const FAULTY: [(&[u8], Fault); 4] = [
+    (b"", Fault::BadHeader(1)),
+    (b"node 9 64 8 32 32 65536\n", Fault::BadHeader(1)),
+    (b"node 1 1 1 1 1 4\nload 0 0 8\n", Fault::BadCommand(2)),
+    (b"node 1 1 1 1 1 4\ndrop 0 0", Fault::MissingNewline(2)),
+];
+
+/// What comes of it with this seed, where so many reads succeed and the output has so much room. What is written
+/// is the beginning of the text, and all of it exactly where nothing fails.
+fn outcome(
+    rt: &(impl Abort + AllocGlobal + Threads + Wait + Clock + Sync),
+    storm_file: &Storm,
+    seed: u64,
+    good_reads: u64,
+    room: usize,
+) -> Result<bool, Fault> {
+    let (file, turns, text, _) = *storm_file;
+    let mut input = MemoryInput::new(file, good_reads);
+    let mut output = MemoryOutput::new(rt.alloc(), room);
+    let done = storm(rt, rt.alloc(), &mut input, &mut output, seed, turns);
+    let written = output.bytes();
+    assert!(rt; text.starts_with(written) && done.is_ok() == (written == text));
+    done
+}
+
 #[test]
-fn turns_that_run_out_are_told(rt: HostRuntime) {
-    ends(&rt, ONE_LOAD, 1, 4, FOUR_TURNS_TEXT, false);
-    ends(&rt, ONE_LOAD, 1, 5, FIVE_TURNS_TEXT, true);
+fn storms_end_with_their_lines_with_any_seed(rt: HostRuntime) {
+    for storm_file in &STORMS {
+        for seed in 1..=20 {
+            assert!(&rt; outcome(&rt, storm_file, seed, 10, 1_000) == Ok(storm_file.3));
+        }
+    }
+}
+
+#[test]
+fn an_input_or_an_output_that_fails_is_told(rt: HostRuntime) {
+    let storm_file = (ONE_LOAD, 5, FIVE_TURNS_TEXT, true);
+    for good_reads in 0..2 {
+        assert!(&rt; outcome(&rt, &storm_file, 1, good_reads, 1_000) == Err(Fault::Read));
+    }
+    for room in 0..FIVE_TURNS_TEXT.len() {
+        assert!(&rt; outcome(&rt, &storm_file, 1, 10, room) == Err(Fault::Write));
+    }
+}
+
+#[test]
+fn a_faulty_file_is_told_and_nothing_written(rt: HostRuntime) {
+    for (file, fault) in FAULTY {
+        assert!(&rt; outcome(&rt, &(file, 1, FIVE_TURNS_TEXT, true), 1, 10, 0) == Err(fault));
+    }
 }

@@ -1,4 +1,4 @@
-//! The verdict on a storm: what it is made of, and storms in which a slice is exchanged behind its lock.
+//! Storms in which a slice is exchanged behind its lock, and their verdicts.
 
 ghost use Rattle.std.specs.Prelude.{◌≡◌, map, vec_len};
 ghost use Rattle.chi_slice.specs.Words.{two_types};
@@ -7,32 +7,17 @@ ghost use Rattle.chi_audit.specs.Numbers.{numbers};
 ghost use Rattle.chi_agent.specs.Ended.{requester_number};
 ghost use Rattle.chi_agent.specs.Script.{writer_of, AreFresh};
 
-use crate::comparison::same;
 use arrayvec::ArrayVec;
-use chi_agent::{Gate, OpenGate, Script, run_agents};
+use chi_agent::{Ended, Gate, OpenGate, Script, run_agents};
 use chi_audit::{Tallies, Writer};
 use chi_flit::{Agent, Line, Operation, Task, WordNo};
 use chi_node::{Node, Requester};
 use chi_slice::{Config, Slice};
-use chi_storm::{outcome_of, verdict_of};
+use chi_storm::outcome_of;
 use std::alloc::Global;
 use std::mem::swap;
 use std::process::Abort;
 use std::sync::{Mutex, Wait};
-
-#[test]
-fn a_verdict_asks_each_of_its_parts(rt: HostRuntime) {
-    let cases: [(bool, bool, [bool; 2], bool); 5] = [
-        (true, true, [false, false], true),
-        (false, true, [false, false], false),
-        (true, false, [false, false], false),
-        (true, true, [true, false], false),
-        (true, true, [false, true], false),
-    ];
-    for (coherent, agree, not_open, wanted) in cases {
-        same(&rt, verdict_of(coherent, agree, &not_open), wanted);
-    }
-}
 
 /// One requester and one line, with an entry of each of two types.
 fn sizes(rt: &impl Abort) -> Config
@@ -110,6 +95,14 @@ fn another(rt: &impl Abort, alloc: Global) -> Mutex<Slice<Global>> {
     Mutex::new(slice.expect(rt, "memory for a slice"))
 }
 
+/// Whether the one agent met refusal 11.
+fn has_met(ended: &Ended) -> bool {
+    match ended.results.get(0) {
+        Some(left) => left.not_open,
+        None => false,
+    }
+}
+
 // In the first turn the request is issued. In the second it isn't to be seen, the next issue is refused 11, and
 // the script stops; from the third on the request is served.
 #[test]
@@ -135,7 +128,7 @@ fn an_agent_that_meets_refusal_11_stops(rt: HostRuntime) {
         );
         ran.expect(&rt, "memory and threads for agents")
     };
-    assert!(rt; ended.not_open.get(0) == Some(&true));
+    assert!(rt; has_met(&ended));
     let outcome = outcome_of(&rt, node, ended);
     assert_eq!(rt; (outcome.agents, outcome.finished), (1, 0));
     assert_eq!(rt; (outcome.loads, outcome.stores), (0, 0));
@@ -159,7 +152,7 @@ fn a_requester_that_does_not_agree_is_seen(rt: HostRuntime) {
         &OpenGate,
     );
     let ended = ran.expect(&rt, "memory and threads for agents");
-    assert!(rt; ended.not_open.get(0) == Some(&false));
+    assert!(rt; !has_met(&ended));
     swap_slices(&rt, &node, &another(&rt, rt.alloc()));
     assert!(rt; !outcome_of(&rt, node, ended).coherent);
 }

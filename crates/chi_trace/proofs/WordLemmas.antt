@@ -1,9 +1,11 @@
 -- The first word of a line.
-use Rattle.std.proofs.Common.{◌≡◌, ℕ, suc, ◌+◌, ◌-◌, ◌<◌, ◌≤◌, Bool, true, false, not, cond, nat_lt, List, [], ◌∷◌, length, take, drop, Some, None, filter, refl, ap, sym, subst, ◌∙◌, arith}
+use Rattle.std.proofs.Common.{◌≡◌, ℕ, suc, ◌+◌, ◌-◌, ◌<◌, ◌≤◌, Bool, true, false, not, cond, nat_lt, List, [], ◌∷◌, length, take, drop, Some, None, filter, refl, ap, sym, subst, ◌∙◌, get_or, Option, arith}
 use Rattle.std.specs.List.{position, position_or_len, prefix_len}
 use Rattle.std.proofs.lemmas.Bool.Decides.{nat_tests}
 use Rattle.std.proofs.lemmas.List.{take_rest}
 use Rattle.std.proofs.lemmas.List.Splits.{slice_split-cons_yes}
+use Rattle.std.proofs.lemmas.List.Sums.{position_or_len_is}
+use Rattle.memchr.specs.Find.{IsFirstByte, is_byte3}
 use Rattle.chi_script.proofs.LineLemmas.{cut_at, uncut}
 use Rattle.chi_trace.specs.Columns.{first_word_of}
 use Rattle.chi_trace.specs.Words.{has_bytes, is_blank, blank_words}
@@ -112,3 +114,24 @@ pub first_of_one : (line : List ℕ) (i : ℕ) → Some i ≡ position (λ b. no
 first_of_one line i e f =
     let text = line_text line i e in
     sym (ap first_word_of (sym text.same) ∙ first_whole (from line i) text.first f)
+
+-- the first blank, as a search for three bytes finds it
+fails : (b : Bool) → (b ≡ true → ⊥) → b ≡ false
+fails true h = absurd (h refl)
+fails false h = refl
+
+place : (n i : ℕ) → i < n → Some i ≡ cond (nat_lt i n) (Some i) None
+place n i h = grind (arith, nat_tests)
+
+no_place : (n : ℕ) → None ≡ cond (nat_lt n n) (Some n) None
+no_place n = grind (arith, nat_tests)
+
+pub found_blank : (text : List ℕ) (r : Option ℕ) → IsFirstByte (is_byte3 32 9 13) text r → r ≡ position is_blank text
+found_blank text None nowhere =
+    let past : position_or_len is_blank text ≡ length text =
+    position_or_len_is is_blank text (length text) 0 (omega arith) (λ k low. fails (is_blank (get_or text k 0)) (nowhere k (omega arith) low)) (λ inside. absurd (omega (arith, inside))) in
+    rw past (no_place (length text))
+found_blank text (Some i) at =
+    let here : position_or_len is_blank text ≡ i =
+    position_or_len_is is_blank text i 0 (omega (arith, at.0.high)) (λ k low. fails (is_blank (get_or text k 0)) (at.0.before k (omega arith) low)) (λ inside. at.1) in
+    rw here (place (length text) i at.0.high)

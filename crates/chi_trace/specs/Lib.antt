@@ -9,3 +9,4 @@ pub mod AnyFlits
 pub mod Faults
 pub mod Files
 pub mod Spelling
+pub mod Malformed

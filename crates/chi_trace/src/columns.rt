@@ -5,7 +5,7 @@ ghost use Rattle.std.specs.Option.{option_map};
 ghost use Rattle.chi_trace.specs.Columns.{row_behind, row_of_columns};
 ghost use Rattle.chi_trace.specs.Words.{blank_words};
 
-use crate::words::first_word;
+use crate::words::{first_long_word, first_word};
 
 /// A column of a line: one of its first eleven words.
 /// Source: `docs/TRACES.md`, "Traces".
@@ -48,13 +48,13 @@ pub(crate) fn columns_behind<'a>(channel: &'a [u8], rest: &'a [u8]) -> Option<Co
     let (source, rest) = first_word(rest)?;
     let (target, rest) = first_word(rest)?;
     let (txn, rest) = first_word(rest)?;
-    let (opcode, rest) = first_word(rest)?;
-    let (address, rest) = first_word(rest)?;
+    let (opcode, rest) = first_long_word(rest)?;
+    let (address, rest) = first_long_word(rest)?;
     let (resp, rest) = first_word(rest)?;
     let (dbid, rest) = first_word(rest)?;
     let (allow_retry, rest) = first_word(rest)?;
     let (pcrd, rest) = first_word(rest)?;
-    let (payload, _) = first_word(rest)?;
+    let (payload, _) = first_long_word(rest)?;
     Some(Columns {
         channel,
         source,

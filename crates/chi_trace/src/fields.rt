@@ -7,6 +7,7 @@ ghost use Rattle.chi_trace.specs.Fields.{address_of, allow_of, beat_of, beat_wit
 
 use crate::numbers::{hex, plain, unmarked};
 use chi_script::is;
+use memchr::memchr;
 use std::fmt;
 
 /// A node of the interconnect, by its NodeID.
@@ -260,7 +261,7 @@ fn only_word(list: &[u8]) -> Option<Option<u64>>
 fn comma(list: &[u8]) -> Option<usize>
     ensures { result ≡ position (λ byte. byte == 44) list.now }
 {
-    list.iter().position(|byte| *byte == b',')
+    memchr(b',', list)
 }
 
 /// The words 0 to 7, with commas between them.

@@ -13,6 +13,7 @@ mod fields;
 mod files;
 mod flits;
 mod laws;
+mod malformed;
 mod numbers;
 mod opcodes;
 mod reading;
@@ -26,4 +27,5 @@ pub use fields::{Address, Beat, DbId, NodeId, PcrdType, Resp, TxnId, read_addres
 pub use files::{MOST_BYTES, read_trace};
 pub use flits::{Flit, RequestFields, Seen, SnoopFields, Transaction, flit_in};
 pub use laws::{lines_are_flits, numbers_are_hexadecimal, traces_are_lines};
+pub use malformed::{Expected, MalformedFront, channel_word};
 pub use opcodes::{Opcode, TraceChannel};

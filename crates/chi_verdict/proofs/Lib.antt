@@ -5,3 +5,4 @@ mod ReadingLemmas
 mod VerdictLemmas
 mod UnseenLemmas
 mod WritingLemmas
+mod FaultLemmas

@@ -30,7 +30,8 @@ use Rattle.chi_verdict.specs.declared.reports.TraceTotals.{TraceTotals}
 use Rattle.chi_verdict.specs.Ending.{explained_outcome, is_anything_open, is_nothing_of, is_nothing_there, trace_outcome_of}
 use Rattle.chi_verdict.specs.Counts.{AreCounts}
 use Rattle.chi_verdict.specs.Readings.{IsReadAs, IsReading}
-use Rattle.chi_verdict.specs.Texts.{BeginsWith, IsOutcomeText, malformed_front}
+use Rattle.chi_trace.specs.Malformed.{malformed_front}
+use Rattle.chi_verdict.specs.Texts.{BeginsWith, IsOutcomeText}
 use Rattle.chi_verdict.specs.Verdicts.{IsFlitsReport, IsTraceJudged, IsReport, IsReportOn, Items, is_table_open, items_of_table, items_with, names_flits, verdict_sizes}
 
 -- the same fact in other words

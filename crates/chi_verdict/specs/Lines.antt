@@ -1,6 +1,6 @@
 -- What it is for the lines of a trace to be explained (docs/TRACES.md, "What is printed").
-use Rattle.std.specs.Prelude.{◌≡◌, ◌==◌, ◌<◌, ◌≤◌, ℕ, Bool, true, false, List, [], ◌∷◌, length, map}
-use Rattle.std.specs.List.{All, count_by, filter, list_any, slice_index_or, sum_by}
+use Rattle.std.specs.Prelude.{◌≡◌, ◌+◌, ◌==◌, ◌<◌, ◌≤◌, ℕ, Bool, true, false, List, [], ◌∷◌, Option, Some, None, length, map, take}
+use Rattle.std.specs.List.{All, count_by, filter, list_any, slice_get, slice_index_or, sum_by}
 use Rattle.std.specs.List.Sorted.{IsPermutation}
 use Rattle.chi_slice.specs.Words.{Sizes}
 use Rattle.chi_explain.specs.declared.explanations.WitnessItem.{WitnessItem}
@@ -9,8 +9,12 @@ use Rattle.chi_explain.specs.declared.observed.Observed.{Observed}
 use Rattle.chi_explain.specs.declared.observed.Observed.TheVariants.{Load}
 use Rattle.chi_explain.specs.declared.observed.StoreListing.{StoreListing}
 use Rattle.chi_explain.specs.Explained.{IsExplained}
+use Rattle.chi_monitor.specs.declared.faults.LineFault.{LineFault}
+use Rattle.chi_monitor.specs.Places.{IsUnexplainable, is_settled}
 use Rattle.chi_resolution.specs.declared.lines.CacheLine.{CacheLine}
 use Rattle.chi_resolution.specs.declared.lines.Resolved.{Resolved}
+use Rattle.chi_verdict.specs.declared.lines.Obstacle.{Obstacle}
+use Rattle.chi_verdict.specs.declared.lines.Obstacle.TheVariants.{NoMemory, Fault, Undone}
 use Rattle.chi_verdict.specs.declared.lines.Placed.{Placed}
 
 -- whether an item of a trace is of this cache line
@@ -73,6 +77,24 @@ is_explained_by explanations item = list_any (λ one. is_on_line one.line item) 
 abbrev pub AreOfTheirOwnLines : List LineExplanation → Type 0
 AreOfTheirOwnLines [] = Unit {0}
 AreOfTheirOwnLines (one ∷ others) = All (λ other. other.line.0 < one.line.0) others × AreOfTheirOwnLines others
+
+-- an item of this number in the trace
+abbrev pub IsNumbered : ℕ → Option Resolved → Type 0
+IsNumbered at None = ⊥
+IsNumbered at (Some item) = item.at ≡ at
+
+-- a fault of an item of a line; of a settled reason nothing explains the items of the line up to it
+pub record IsLineFault (config : Sizes) (stores : StoreListing) (items : List Resolved) (at : ℕ) (cause : LineFault) : Type 0 where
+  pub line : CacheLine
+  pub place : ℕ
+  pub item : IsNumbered at (slice_get (items_of line items) place)
+  pub none : is_settled cause ≡ true → IsUnexplainable config stores (said_by (take (place + 1) (items_of line items)))
+
+-- why a line isn't explained: a fault is one of its items'
+abbrev pub IsObstacle : Sizes → StoreListing → List Resolved → Obstacle → Type 0
+IsObstacle config stores items (Fault at cause) = IsLineFault config stores items at cause
+IsObstacle config stores items NoMemory = Unit {0}
+IsObstacle config stores items (Undone line) = Unit {0}
 
 -- the items of each of so many cache lines are explained, by so many actions in all
 pub record AreLinesExplained (config : Sizes) (stores : StoreListing) (items : List Resolved) (actions lines : ℕ) : Type 0 where

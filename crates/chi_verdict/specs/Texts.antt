@@ -2,8 +2,7 @@
 use Rattle.std.specs.Prelude.{◌≡◌, ℕ, ◌==◌, List, [], ◌∷◌, ◌++◌, Option, Some, None, codes, if◌then◌else◌}
 use Rattle.std.specs.Fmt.{decimal}
 use Rattle.std.specs.List.{slice_get}
-use Rattle.chi_trace.specs.declared.faults.TraceFault.{TraceFault}
-use Rattle.chi_trace.specs.declared.faults.TraceFault.TheVariants.{NoMemory, TooLarge, MissingNewline, FewWords, BadWord}
+use Rattle.chi_trace.specs.Malformed.{malformed_front}
 use Rattle.chi_trace.specs.declared.fields.Address.{Address}
 use Rattle.chi_trace.specs.declared.flits.Seen.{Seen}
 use Rattle.chi_verdict.specs.declared.reports.TraceOutcome.{TraceOutcome}
@@ -37,14 +36,6 @@ abbrev pub stop_front : List Seen → TraceStop → List ℕ
 stop_front seen (Ids fault) = numbered (flit_number_of (slice_get seen fault.at))
 stop_front seen (Flit at fault) = numbered (flit_number_of (slice_get seen at))
 stop_front seen (Undone line) = codes "no explanation of the cache line at "
-
--- the line on a file that is no trace
-abbrev pub malformed_front : TraceFault → List ℕ
-malformed_front NoMemory = codes "chihome: "
-malformed_front TooLarge = codes "chihome: file too large"
-malformed_front (MissingNewline line) = codes "chihome: line " ++ (decimal line ++ codes ": missing newline")
-malformed_front (FewWords line) = codes "chihome: line " ++ (decimal line ++ codes ": fewer than eleven words")
-malformed_front (BadWord line column) = codes "chihome: line " ++ (decimal line ++ codes ": ")
 
 -- where the check file of a line is asked for, the text is that file
 abbrev pub IfWhole : Option Address → Type 0 → Type 0

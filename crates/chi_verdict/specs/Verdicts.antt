@@ -30,8 +30,9 @@ use Rattle.chi_verdict.specs.declared.readings.Counts.{Counts}
 use Rattle.chi_verdict.specs.Closing.{closed}
 use Rattle.chi_verdict.specs.Counts.{AreCounts}
 use Rattle.chi_verdict.specs.Ending.{is_anything_open, is_nothing_there, trace_outcome_of}
-use Rattle.chi_verdict.specs.Lines.{AreLinesExplained}
-use Rattle.chi_verdict.specs.Texts.{BeginsWith, IsOutcomeText, malformed_front}
+use Rattle.chi_verdict.specs.Lines.{AreLinesExplained, IsLineFault}
+use Rattle.chi_trace.specs.Malformed.{malformed_front}
+use Rattle.chi_verdict.specs.Texts.{BeginsWith, IsOutcomeText}
 use Rattle.chi_verdict.specs.Unseen.{AreFilled}
 
 -- a node of one line with eight agents, whose journal keeps no records and has no end
@@ -68,17 +69,22 @@ abbrev pub IsBefore : ℕ → Option IdFault → Type 0
 IsBefore at None = Unit {0}
 IsBefore at (Some fault) = at < fault.at
 
--- what is told as the first that isn't explained: what the ids and the ledger don't allow is told so, unless another
--- flit comes before it
-abbrev pub IsStop : Option IdFault → TraceStop → Type 0
-IsStop fault (Ids told) = fault ≡ Some told
-IsStop fault (Flit at cause) = IsBefore at fault
-IsStop fault (Undone line) = fault ≡ None
+-- what is told as the first of these items that isn't explained: what the ids and the ledger don't allow is told so, unless
+-- another one comes before it
+abbrev pub IsStopAmong : Sizes → StoreListing → List Resolved → Option IdFault → TraceStop → Type 0
+IsStopAmong config stores whole fault (Ids told) = fault ≡ Some told
+IsStopAmong config stores whole fault (Flit at cause) = IsBefore at fault × IsLineFault config stores whole at cause
+IsStopAmong config stores whole fault (Undone line) = fault ≡ None
+
+-- the same of the items as they are explained
+abbrev pub IsStop : Sizes → StoreListing → Items → Option IdFault → TraceStop → Type 0
+IsStop config stores items fault stop =
+    (whole : List Resolved) × AreFilled items.unfinished (closed items.flits items.waiting) whole × IsStopAmong config stores whole fault stop
 
 -- what comes of so many flits, loads and stores that are resolved so
 abbrev pub IsTraceJudged : Sizes → StoreListing → Counts → Option IdFault → Items → Result TraceTotals TraceStop → Type 0
 IsTraceJudged config stores counts fault items (Ok totals) = IsAllExplained config stores counts fault items totals
-IsTraceJudged config stores counts fault items (Err stop) = IsStop fault stop
+IsTraceJudged config stores counts fault items (Err stop) = IsStop config stores items fault stop
 
 abbrev pub is_table_open : Open → Bool
 is_table_open table = is_anything_open (values_of table.ids) (values_of table.unfinished) table.waiting table.accounts

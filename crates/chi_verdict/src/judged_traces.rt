@@ -7,11 +7,12 @@ ghost use Rattle.chi_verdict.specs.declared.reports.TraceOutcome.TheVariants as 
 
 use crate::asked::{Asked, Ending};
 use crate::check_files::Told;
+use crate::lines::said_by;
 use crate::names::{joined, kept};
 use crate::open_texts::write_open;
 use crate::outcome_texts::{explained_line, nothing_text, stop_front};
 use crate::reports::{TraceOutcome, TraceReport, TraceStop, TraceTotals};
-use chi_explain::{Observed, StoreListing};
+use chi_explain::StoreListing;
 use chi_flit::{NoMemory, Profile};
 use chi_monitor::explain_flits;
 use chi_resolution::{CacheLine, Resolution, Resolved, line_of};
@@ -186,16 +187,4 @@ impl<A: Allocator + Copy> JudgedTrace<'_, A> {
         }
         Ok(text)
     }
-}
-
-/// What items say.
-pub(crate) fn said_by<A: Allocator>(
-    alloc: A,
-    items: &[Resolved],
-) -> Result<Vec<Observed, A>, NoMemory> {
-    let mut seen = Vec::new(alloc);
-    for item in items {
-        seen.push(item.flit)?;
-    }
-    Ok(seen)
 }

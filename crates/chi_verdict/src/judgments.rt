@@ -1,7 +1,11 @@
 //! What comes of a trace that was resolved: how much is explained, or what is told as the first that isn't.
 
-ghost use Rattle.std.specs.Prelude.{◌≡◌, IfErr, IfOk, IfSome, None};
-ghost use Rattle.chi_verdict.specs.Verdicts.{IsStop, IsTraceJudged, items_with};
+ghost use Rattle.std.specs.Prelude.{◌≡◌, IfErr, IfOk, IfSome, List, None};
+ghost use Rattle.chi_explain.specs.declared.observed.StoreListing.{StoreListing};
+ghost use Rattle.chi_resolution.specs.declared.lines.Resolved.{Resolved};
+ghost use Rattle.chi_slice.specs.Words.{Sizes};
+ghost use Rattle.chi_verdict.specs.Lines.{IsLineFault, IsObstacle};
+ghost use Rattle.chi_verdict.specs.Verdicts.{IsStopAmong, IsTraceJudged, items_with};
 
 use crate::closings::close;
 use crate::lines::{LineTotals, Obstacle, explain_lines};
@@ -11,7 +15,7 @@ use crate::unseen::fill_data;
 use chi_explain::StoreListing;
 use chi_flit::NoMemory;
 use chi_monitor::LineFault;
-use chi_resolution::{IdFault, Resolution};
+use chi_resolution::{CacheLine, IdFault, Resolution};
 use chi_slice::Config;
 use std::alloc::Allocator;
 
@@ -53,7 +57,8 @@ fn total_of(
     ensures accesses { IfOk result (λ total. total.accesses ≡ counts.accesses) }
     ensures actions { IfOk result (λ total. total.actions ≡ totals.actions) }
     ensures lines { IfOk result (λ total. total.lines ≡ totals.lines) }
-    ensures err { IfErr result (IsStop fault) }
+    ensures err { (config : Sizes) (stores : StoreListing) (whole : List Resolved)
+        → IfErr result (IsStopAmong config stores whole fault) }
 {
     match fault {
         None => Ok(TraceTotals {
@@ -69,18 +74,22 @@ fn total_of(
 /// What comes first in the trace, an obstacle of a line or the first flit that the ids or the ledger don't allow;
 /// `None` where memory ran out.
 fn first_stop(obstacle: Obstacle, fault: Option<IdFault>) -> Option<TraceStop>
-    ensures { IfSome result (IsStop fault) }
+    ensures { (config : Sizes) (stores : StoreListing) (whole : List Resolved)
+        → IsObstacle config stores whole obstacle
+        → IfSome result (IsStopAmong config stores whole fault) }
 {
     match obstacle {
         Obstacle::NoMemory => None,
         Obstacle::Fault { at, fault: cause } => Some(first_of_both(at, cause, fault)),
-        Obstacle::Undone(line) => Some(unless_ids(TraceStop::Undone(line), fault)),
+        Obstacle::Undone(line) => Some(undone(line, fault)),
     }
 }
 
 /// Of both what comes first.
 fn first_of_both(at: usize, cause: LineFault, fault: Option<IdFault>) -> TraceStop
-    ensures { IsStop fault result }
+    ensures { (config : Sizes) (stores : StoreListing) (whole : List Resolved)
+        → IsLineFault config stores whole at cause
+        → IsStopAmong config stores whole fault result }
 {
     match fault {
         Some(fault) if fault.at <= at => TraceStop::Ids(fault),
@@ -88,13 +97,13 @@ fn first_of_both(at: usize, cause: LineFault, fault: Option<IdFault>) -> TraceSt
     }
 }
 
-/// This, unless the ids or the ledger don't allow a flit.
-fn unless_ids(stop: TraceStop, fault: Option<IdFault>) -> TraceStop
-    requires { IsStop None stop }
-    ensures { IsStop fault result }
+/// A line that isn't explained, unless the ids or the ledger don't allow a flit.
+fn undone(line: CacheLine, fault: Option<IdFault>) -> TraceStop
+    ensures { (config : Sizes) (stores : StoreListing) (whole : List Resolved)
+        → IsStopAmong config stores whole fault result }
 {
     match fault {
         Some(fault) => TraceStop::Ids(fault),
-        None => stop,
+        None => TraceStop::Undone(line),
     }
 }

@@ -1,9 +1,9 @@
 //! The cache lines of a trace, each explained by itself.
 
-ghost use Rattle.std.specs.Prelude.{◌≡◌, ◌≤◌, ◌+◌, [], true, IfOk, length, take};
-ghost use Rattle.std.specs.List.{All, count_by};
+ghost use Rattle.std.specs.Prelude.{◌≡◌, ◌≤◌, ◌+◌, [], true, IfErr, IfOk, length, take};
+ghost use Rattle.std.specs.List.{All, count_by, slice_get};
 ghost use Rattle.chi_verdict.specs.declared.lines.Obstacle.TheVariants as obstacles;
-ghost use Rattle.chi_verdict.specs.Lines.{AreItemsExplained, AreLinesExplained, IsReordered, in_order, is_action, is_on_line, item_in, said_by};
+ghost use Rattle.chi_verdict.specs.Lines.{AreItemsExplained, AreLinesExplained, IsObstacle, IsReordered, in_order, is_action, is_on_line, item_in, items_of, said_by};
 
 use chi_explain::{Observed, StoreListing, Unexplained, WitnessItem};
 use chi_flit::NoMemory;
@@ -244,8 +244,8 @@ pub(crate) fn sort_items<A: Allocator + Copy>(
 /// Explains the items of each line by themselves, in a node of this size: by how many actions, and on how many lines.
 ///
 /// `Fault` or `Undone` where a line isn't explained: a fault, where there is one, of the first of the flits,
-/// loads and stores that have one. That what is told isn't explained by any actions is tested, and no clause says it.
-/// `NoMemory` where memory runs out. Whatever the result, the items are the same then but for their order, and those of
+/// loads and stores that have one. Of a settled reason it is that nothing explains its line up to it; that it is so of
+/// the others is tested, and no clause says it. `NoMemory` where memory runs out. Whatever the result, the items are the same then but for their order, and those of
 /// a line stand as before. Where a line isn't explained they ascend by line, and else they are where they were.
 /// Source: `docs/TRACES.md`, "What is printed".
 pub fn explain_lines<A: Allocator + Copy>(
@@ -256,6 +256,7 @@ pub fn explain_lines<A: Allocator + Copy>(
 ) -> Result<LineTotals, Obstacle>
     ensures explained { IfOk result (λ totals.
         AreLinesExplained config.now stores items.old.items totals.actions totals.lines) }
+    ensures told { IfErr result (IsObstacle config.now stores items.old.items) }
     ensures same { IsReordered items.old.items items.new.items }
 {
     let order = order_of(alloc, items)?;
@@ -263,10 +264,101 @@ pub fn explain_lines<A: Allocator + Copy>(
         Ok(totals) => Ok(totals),
         Err(obstacle) => {
             let first = first_obstacle(alloc, config, stores, items, &order, obstacle);
+            let told = told_alone(alloc, config, stores, items, first);
             sort_items(items)?;
-            Err(first)
+            Err(told)
         }
     }
+}
+
+/// The obstacle that was met first, as a search of its line alone tells it.
+fn told_alone<A: Allocator + Copy>(
+    alloc: A,
+    config: &Config,
+    stores: StoreListing,
+    items: &[Resolved],
+    met: Obstacle,
+) -> Obstacle
+    ensures { IsObstacle config.now stores items.now result }
+{
+    match met {
+        Obstacle::NoMemory => Obstacle::NoMemory,
+        Obstacle::Fault { at, fault: _ } => match items.iter().find(|item| item.at == at) {
+            Some(item) => fault_of(alloc, config, stores, item.line, items),
+            None => Obstacle::NoMemory,
+        },
+        Obstacle::Undone(line) => Obstacle::Undone(line),
+    }
+}
+
+/// The items of the line, in their order.
+fn items_of<A: Allocator>(
+    alloc: A,
+    line: CacheLine,
+    items: &[Resolved],
+) -> Result<Vec<Resolved, A>, AllocError>
+    ensures { IfOk result (λ own. own.items ≡ items_of line items.now) }
+{
+    let mut own = Vec::new(alloc);
+    for item in items {
+        if item.line.0 == line.0 {
+            own.push(*item)?;
+        }
+    }
+    Ok(own)
+}
+
+/// The item of this number, if there is one.
+fn item_of_number(items: &[Resolved], number: usize) -> Option<Resolved>
+    ensures { result ≡ slice_get items.now number }
+{
+    match items.get(number) {
+        Some(item) => Some(*item),
+        None => None,
+    }
+}
+
+/// The fault of a line.
+#[tactic(auto, using(crate::proofs::FaultLemmas::line_fault))]
+fn fault_of<A: Allocator + Copy>(
+    alloc: A,
+    config: &Config,
+    stores: StoreListing,
+    line: CacheLine,
+    items: &[Resolved],
+) -> Obstacle
+    ensures { IsObstacle config.now stores items.now result }
+{
+    let own = match items_of(alloc, line, items) {
+        Ok(own) => own,
+        Err(_) => return Obstacle::NoMemory,
+    };
+    let seen = match said_by(alloc, &own) {
+        Ok(seen) => seen,
+        Err(_) => return Obstacle::NoMemory,
+    };
+    match first_fault(alloc, config, stores, &seen) {
+        Some(NoExplanation::Fault(number, fault)) => match item_of_number(&own, number) {
+            Some(item) => Obstacle::Fault { at: item.at, fault },
+            None => Obstacle::NoMemory,
+        },
+        Some(NoExplanation::NoMemory) => Obstacle::NoMemory,
+        Some(NoExplanation::Undone(_)) | None => Obstacle::Undone(line),
+    }
+}
+
+/// What items say.
+pub(crate) fn said_by<A: Allocator>(
+    alloc: A,
+    items: &[Resolved],
+) -> Result<Vec<Observed, A>, NoMemory>
+    ensures { IfOk result (λ seen. seen.items ≡ said_by items.now) }
+{
+    let mut seen = Vec::new(alloc);
+    for item in items {
+        seen.push(item.flit)?;
+    }
+    Ok(seen)
 }
 
 /// The obstacle that comes first in the trace among items in an order in which they ascend by line, where one was met.

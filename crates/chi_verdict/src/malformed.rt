@@ -1,94 +1,16 @@
 //! What is told of a file that is no trace.
 
-ghost use Rattle.std.specs.Prelude.{◌≡◌, ◌≢◌, IfOk, IsTrue, Some, string_bytes};
+ghost use Rattle.std.specs.Prelude.{◌≡◌, ◌≢◌, IfOk, IsTrue, string_bytes};
 ghost use Rattle.chi_trace.specs.declared.faults.TraceFault.TheVariants as faults;
-ghost use Rattle.chi_verdict.specs.Texts.{BeginsWith, malformed_front};
+ghost use Rattle.chi_trace.specs.Malformed.{malformed_front};
+ghost use Rattle.chi_verdict.specs.Texts.{BeginsWith};
 
 use crate::names::{joined, kept};
 use chi_flit::NoMemory;
-use chi_script::{ShownWord, line_at};
-use chi_trace::{Column, MOST_BYTES, TraceChannel, TraceFault};
+use chi_script::line_at;
+use chi_trace::{Expected, MOST_BYTES, MalformedFront, TraceFault, channel_word};
 use std::alloc::Allocator;
-use std::fmt;
 use std::fmt::Write;
-
-/// A column, by its name at the head of a trace.
-#[derive(Clone, Copy)]
-struct ColumnName(Column);
-
-/// How the line on a fault begins.
-#[derive(Clone, Copy)]
-struct MalformedFront(TraceFault);
-
-impl fmt::Display for MalformedFront {
-    ghost output = { λ front. Some (malformed_front front.0) };
-
-    fn fmt<W: fmt::Write>(&self, f: &mut fmt::Formatter<W>) -> fmt::Result {
-        match self.0 {
-            TraceFault::NoMemory => write!(f, "chihome: "),
-            TraceFault::TooLarge => write!(f, "chihome: file too large"),
-            TraceFault::MissingNewline(line) => {
-                write!(f, "chihome: line {line}: missing newline")
-            }
-            TraceFault::FewWords(line) => {
-                write!(f, "chihome: line {line}: fewer than eleven words")
-            }
-            TraceFault::BadWord { line, column: _ } => write!(f, "chihome: line {line}: "),
-        }
-    }
-}
-
-impl fmt::Display for ColumnName {
-    fn fmt<W: fmt::Write>(&self, f: &mut fmt::Formatter<W>) -> fmt::Result {
-        f.write_str(match self.0 {
-            Column::Channel => "CH",
-            Column::Source => "SRC",
-            Column::Target => "TGT",
-            Column::Txn => "TXN",
-            Column::Opcode => "OPCODE",
-            Column::Address => "ADDR",
-            Column::Resp => "RESP",
-            Column::Dbid => "DBID",
-            Column::AllowRetry => "AR",
-            Column::Pcrd => "PCRD",
-            Column::Data => "DATA",
-        })
-    }
-}
-
-/// The place of a column in its line, counted from 0.
-fn place_of(column: Column) -> usize {
-    match column {
-        Column::Channel => 0,
-        Column::Source => 1,
-        Column::Target => 2,
-        Column::Txn => 3,
-        Column::Opcode => 4,
-        Column::Address => 5,
-        Column::Resp => 6,
-        Column::Dbid => 7,
-        Column::AllowRetry => 8,
-        Column::Pcrd => 9,
-        Column::Data => 10,
-    }
-}
-
-/// What is expected in a column, behind this word in the first one.
-fn expected(column: Column, channel: &[u8]) -> &'static str {
-    match column {
-        Column::Channel => "REQ, SNP, RSP, DAT or CPU",
-        Column::Source | Column::Target | Column::Txn | Column::Dbid => {
-            "a hexadecimal number, ffff at most"
-        }
-        Column::Opcode => opcodes(channel),
-        Column::Address => "a hexadecimal number of 64 bits",
-        Column::Resp => "I, SC, UC, UD, SD, I_PD, SC_PD, UC_PD, UD_PD or SD_PD",
-        Column::AllowRetry => "0 or 1",
-        Column::Pcrd => "a hexadecimal number, f at most",
-        Column::Data if matches!(channel, b"CPU") => "a hexadecimal number of 64 bits",
-        Column::Data => "eight hexadecimal words or x with commas between them, or 128 digits",
-    }
-}
 
 /// The opcodes of a channel.
 fn opcodes(channel: &[u8]) -> &'static str {
@@ -101,14 +23,6 @@ fn opcodes(channel: &[u8]) -> &'static str {
         b"RSP" => "RetryAck, Comp, CompDBIDResp, PCrdGrant, SnpResp or CompAck",
         _ => "CompData, SnpRespData or CopyBackWrData",
     }
-}
-
-/// The word at this place of a line, counted from 0; empty where there is none.
-fn word_at(line: &[u8], place: usize) -> &[u8] {
-    let mut words = line
-        .split(|byte| matches!(*byte, b' ' | b'\t' | b'\r'))
-        .filter(|word| !word.is_empty());
-    words.nth(place).unwrap_or(&[])
 }
 
 /// What is wrong with a file of these bytes; `NoMemory` where that is the fault.
@@ -154,22 +68,22 @@ fn is_of_file(fault: TraceFault) -> bool
     }
 }
 
-/// Puts what was expected behind the text, and of a wrong word its column before.
+/// Puts what was expected behind the text.
 fn write_expected<A: Allocator>(
     text: &mut String<A>,
     bytes: &[u8],
     fault: TraceFault,
 ) -> Result<(), NoMemory> {
     match fault {
-        TraceFault::FewWords(_) => kept(write!(text, ", expected {HEAD}")),
-        TraceFault::BadWord { line, column } => {
-            let words = line_at(bytes, line);
-            let (name, word) = (
-                ColumnName(column),
-                ShownWord(word_at(words, place_of(column))),
-            );
-            let wanted = expected(column, word_at(words, 0));
-            kept(write!(text, "{name} {word}, expected {wanted}"))
+        TraceFault::FewWords(line) | TraceFault::BadWord { line, column: _ } => {
+            let line = line_at(bytes, line);
+            let opcodes = opcodes(channel_word(line));
+            let expected = Expected {
+                fault,
+                line,
+                opcodes,
+            };
+            kept(write!(text, "{expected}"))
         }
         TraceFault::TooLarge => kept(write!(
             text,
@@ -191,6 +105,3 @@ fn write_mark<A: Allocator>(
         _ => Ok(()),
     }
 }
-
-/// The columns of a line.
-const HEAD: &str = "CH SRC TGT TXN OPCODE ADDR RESP DBID AR PCRD DATA";

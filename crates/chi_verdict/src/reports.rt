@@ -5,7 +5,8 @@ ghost use Rattle.chi_trace.specs.Files.{trace_of};
 ghost use Rattle.chi_trace.specs.declared.faults.TraceFault.TheVariants as faults;
 ghost use Rattle.chi_trace.specs.declared.flits.Seen.{Seen};
 ghost use Rattle.chi_verdict.specs.Readings.{IsReading};
-ghost use Rattle.chi_verdict.specs.Texts.{BeginsWith, malformed_front};
+ghost use Rattle.chi_trace.specs.Malformed.{malformed_front};
+ghost use Rattle.chi_verdict.specs.Texts.{BeginsWith};
 ghost use Rattle.chi_verdict.specs.Verdicts.{IsFlitsReport, IsReport, names_flits, verdict_sizes};
 ghost use Rattle.chi_verdict.specs.declared.reports.TraceOutcome.TheVariants as outcomes;
 
@@ -104,7 +105,8 @@ fn config_of(types: Types) -> Option<Config>
 /// isn't first. Of a file that is no trace it is the first fault of the grammar. Where an address is asked for the text
 /// is the check file that explains its line, up to the first that isn't explained.
 ///
-/// `NoMemory` where memory runs out. That what is told as a fault of a line is one is tested, and no clause says it.
+/// `NoMemory` where memory runs out. That what is told as a fault of a line is one is a clause where its reason is
+/// settled, and else tested.
 /// Source: `docs/TRACES.md`, "What is printed".
 pub fn report_on<A: Allocator + Copy>(
     alloc: A,

@@ -1,7 +1,8 @@
 //! What isn't explained of a trace, in words, and what would be. No clause says these texts: they are tested.
 
 use crate::id_texts::ReasonText;
-use crate::judged_traces::{JudgedTrace, said_by};
+use crate::judged_traces::JudgedTrace;
+use crate::lines::said_by;
 use crate::names::{LineName, NodeName, ObservedName, SeenName, kept, requester_of};
 use crate::outcome_texts::number_at;
 use crate::readings::is_access;

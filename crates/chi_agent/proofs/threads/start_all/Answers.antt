@@ -30,7 +30,6 @@ loop-preserved g c =
     let ss = c.loop.scripts.items in
     let ss' = c.first_seat.new.scripts.items in
     record {
-      same = starts (λ h. h.promise.seat.value.requester) c.args.requesters.items c.loop.handles.items c.push_reserved.new.self.items c.in-Ok.handle seat.requester rs rs' i.same e.requester c.push_reserved.ensures.items (ap (λ (z : Seat). z.requester) ok.seat);
       begun = starts (λ h. begun h.promise) (runs.starts config plan.seed plan.turns c.args.requesters.items (operations_of c.args.scripts.items)) c.loop.handles.items c.push_reserved.new.self.items c.in-Ok.handle
           (start_of config plan.seed plan.turns seat.requester seat.script.operations) (runs.starts config plan.seed plan.turns rs (operations_of ss)) (runs.starts config plan.seed plan.turns rs' (operations_of ss')) i.begun
           (first_begins config plan.seed plan.turns seat.requester rs rs' seat.script ss ss' e.requester e.script) c.push_reserved.ensures.items (begun_so c.in-Ok.handle.promise config plan seat ok.config ok.plan ok.seat);

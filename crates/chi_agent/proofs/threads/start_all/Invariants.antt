@@ -9,7 +9,6 @@ use Rattle.chi_agent.proofs.threads.start_all.Given as goal
 
 abbrev pub invariant-loop : goal.invariant-loop
 invariant-loop g l = record {
-  same : map (λ h. h.promise.seat.value.requester) l.handles.items ++ l.requesters.items ≡ l.fn.requesters.items;
   begun : map (λ h. begun h.promise) l.handles.items ++ starts l.fn.node.config l.fn.plan.seed l.fn.plan.turns l.requesters.items (operations_of l.scripts.items) ≡ starts l.fn.node.config l.fn.plan.seed l.fn.plan.turns l.fn.requesters.items (operations_of l.fn.scripts.items);
   own : All (IsOwn l.fn.node) l.requesters.items;
   fresh : AreFresh l.fn.tallies l.scripts.items;

@@ -14,11 +14,11 @@ returns g c =
     let script = c.args.script.now in
     let file = c.args.bytes.now in
     let title = map (λ heading. heading.items) c.in_ok-title.title.items in
-    let d : DrawnChart = record { config = c.config_of-config.result; checks = map line_of_check c.deref.result.now; part = c.args.part.now; lines = lines_of c.headings.new.self.bytes.now; top = c.in_ok-top.top } in
+    let d : DrawnChart = record { config = script.header; checks = map line_of_check c.deref.result.now; part = c.args.part.now; lines = lines_of c.headings.new.self.bytes.now; top = c.in_ok-top.top } in
     let named : title ≡ title_of file = search (rules, c.in_ok-title.ensures.headings) in
     let left : lines_of c.headings.new.self.bytes.now ≡ lines_behind (lines_of file) = search (rules, c.in_ok-title.ensures.left) in
     let high : c.in_ok-top.top ≡ top title = top_by (λ heading. heading.items) c.in_ok-title.title.items c.len.result c.in_ok-top.top (search (rules, c.in_ok-top.ensures)) (search (rules, c.len.ensures)) in
     let is : d ≡ drawing_of file script.header (map line_of_check script.checks.items) c.args.part.now =
-    same_drawing file script.header (map line_of_check script.checks.items) c.args.part.now d c.config_of-config.ensures (ap (map line_of_check) c.deref.ensures.value) refl left (high ∙ ap top named) in
+    same_drawing file script.header (map line_of_check script.checks.items) c.args.part.now d refl (ap (map line_of_check) c.deref.ensures.value) refl left (high ∙ ap top named) in
     chart_if_drawn (λ text. text.items) c.svg_of.result file script.header (map line_of_check script.checks.items) c.args.part.now d title
     (map row_seen c.in_ok-run.run'.rows.items) c.in_ok-run.run'.place.y c.layout_of-layout.result is named c.in_ok-run.ensures c.layout_of-layout.ensures (rw (← c.deref-2.ensures.value, ← c.deref-3.ensures.value) c.svg_of.ensures)

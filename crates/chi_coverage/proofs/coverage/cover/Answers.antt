@@ -1,7 +1,8 @@
 -- One file more, and all of them.
 use Rattle.std.proofs.Common.{◌<◌, arith, length, map, string_bytes, take}
 use Rattle.chi_replay.specs.Suites.{given_of}
-use Rattle.chi_coverage.proofs.Covering.{cover_state, covered_on, covers_first, covers_length, covers_next}
+use Rattle.chi_coverage.specs.Counts.{cover_state}
+use Rattle.chi_coverage.proofs.Covering.{covered_on, covers_first, covers_length, covers_next}
 use Rattle.chi_coverage.proofs.coverage.cover.Goals as goal
 
 pub loop-file-init : goal.loop-file-init

@@ -1,7 +1,8 @@
 -- One file more, and all of them.
 use Rattle.std.proofs.Common.{◌<◌, arith, length, map, string_bytes, take}
 use Rattle.chi_replay.specs.Suites.{given_of}
-use Rattle.chi_coverage.proofs.Adding.{merge_state, merged_on, merges_first, merges_length, merges_next}
+use Rattle.chi_coverage.specs.Merging.{merge_state}
+use Rattle.chi_coverage.proofs.Adding.{merged_on, merges_first, merges_length, merges_next}
 use Rattle.chi_coverage.proofs.merging.merge.Goals as goal
 
 pub loop-file-init : goal.loop-file-init

@@ -1,6 +1,7 @@
 use Rattle.chi_observer.proofs.Back.{comes}
 use Rattle.chi_observer.proofs.Cache.{taken, leads}
 use Rattle.chi_observer.proofs.Comes.{kept}
+use Rattle.chi_observer.proofs.Sent.{flits_possible}
 use Rattle.chi_observer.proofs.laws.cache_flits.Goals as goal
 
 pub returns-clause-taken : goal.returns-clause-taken
@@ -14,3 +15,6 @@ returns-clause-sound c = kept
 
 pub returns-clause-comes : goal.returns-clause-comes
 returns-clause-comes c = comes
+
+pub returns-clause-possible : goal.returns-clause-possible
+returns-clause-possible c = flits_possible

@@ -20,7 +20,7 @@ loop-n-preserved c =
     let low : n < length behind = subst (λ (k : ℕ). n < k) (sym c.loop-n.invariant.0) some in
     let whole : length (slice_set behind n x) ≡ 32 = search (rules, arith, c.loop-n.invariant.0) in (
       whole,
-      split (λ m. m < n + 1 → shown_of (slice_set behind n x) m ≡ shown_here c.args.agents.now c.args.current c.args.flit (shown_of c.args.shown.now m) m) n
+      split (λ m. m < n + 1 → shown_of (slice_set behind n x) m ≡ shown_here c.args.stores c.args.agents.now c.args.current c.args.flit (shown_of c.args.shown.now m) m) n
           (λ _. get_or-set_at behind n n x false refl low ∙ c.is_shown.ensures)
           (λ m apart below. get_or-set_other behind n m x false apart ∙ c.loop-n.invariant.1 m (lower m n below apart)),
     )
@@ -29,4 +29,4 @@ pub returns : goal.returns
 returns c =
     let all : c.loop-n.n ≡ 32 = omega (arith, c.loop-n-test.false, c.loop-n.auto.n-end) in
     let agents_all : length c.args.agents.now ≡ 32 = search (rules, arith) in
-    shown_all c.args.agents.now c.args.current c.args.shown.now c.loop-n.behind c.args.flit agents_all c.loop-n.invariant.0 (λ m low. c.loop-n.invariant.1 m (subst (λ (k : ℕ). m < k) (sym all) low))
+    shown_all c.args.stores c.args.agents.now c.args.current c.args.shown.now c.loop-n.behind c.args.flit agents_all c.loop-n.invariant.0 (λ m low. c.loop-n.invariant.1 m (subst (λ (k : ℕ). m < k) (sym all) low))

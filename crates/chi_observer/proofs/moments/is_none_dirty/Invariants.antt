@@ -7,4 +7,4 @@ use Rattle.chi_observer.specs.Lines.{agent_of, known_of}
 use Rattle.chi_observer.proofs.moments.is_none_dirty.Given as goal
 
 abbrev pub invariant-loop-n : goal.invariant-loop-n
-invariant-loop-n l = l.clean ≡ all_below l.n (λ m. m == l.agent || not (may_be_dirty (agent_of l.agents m).due (known_of (agent_of l.agents m)) (tells_of l.flit m)))
+invariant-loop-n l = l.clean ≡ all_below l.n (λ m. m == l.agent || not (may_be_dirty l.stores (agent_of l.agents m).due (known_of (agent_of l.agents m)) (tells_of l.flit m)))

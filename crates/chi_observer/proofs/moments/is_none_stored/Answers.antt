@@ -9,4 +9,4 @@ use Rattle.chi_observer.proofs.moments.is_none_stored.Goals as goal
 pub returns : goal.returns
 returns c =
     let all : c.loop-n.n ≡ 32 = omega (arith, c.loop-n-test.false, c.loop-n.auto.n-end) in
-    subst (λ (k : ℕ). c.loop-n.none ≡ all_below k (λ m. not (may_be_stored (agent_of c.args.agents.now m).due (known_of (agent_of c.args.agents.now m)) (tells_of c.args.flit m)))) all c.loop-n.invariant
+    subst (λ (k : ℕ). c.loop-n.none ≡ all_below k (λ m. not (may_be_stored c.args.stores (agent_of c.args.agents.now m).due (known_of (agent_of c.args.agents.now m)) (tells_of c.args.flit m)))) all c.loop-n.invariant

@@ -5,7 +5,7 @@ use Rattle.chi_script.specs.declared.commands.Command.{Command}
 use Rattle.chi_replay.specs.Texts.{IsText}
 use Rattle.chi_replay.specs.Turns.{turn}
 use Rattle.chi_replay.specs.Session.{machine_of, ports_of}
-use Rattle.chi_replay.proofs.Leads.{LeadsOn, leads_first, leads_further, leads_to, says_reply}
+use Rattle.chi_replay.proofs.Leads.{LeadsOn, leads_first, leads_further, leads_to, says_told}
 use Rattle.chi_replay.proofs.runs.run.Goals as goal
 
 pub loop-command-init : goal.loop-command-init
@@ -22,7 +22,7 @@ loop-command-preserved g c =
     let here : one ≡ get_or all n one = search (rules, c.command-item.is) in
     let cut : drop n all ≡ one ∷ drop (n + 1) all = rw add-one (drop-cons all n one low) ∙ ap (λ (x : Command). x ∷ drop (n + 1) all) (sym here) in
     leads_further c.args.config.now all (string_bytes c.loop-command.text) _ (machine_of c.loop-command.system) _ (ports_of c.loop-command.system) _ one (drop (n + 1) all)
-    (subst (LeadsOn c.args.config.now all (string_bytes c.loop-command.text) (machine_of c.loop-command.system) (ports_of c.loop-command.system)) cut c.loop-command.invariant) (says_reply (turn (machine_of c.loop-command.system) one) (ports_of c.loop-command.system) _ _ (string_bytes c.loop-command.text) _ c.answer-reply.result (search (rules, c.answer-reply.ensures)) (search (rules, c.in_ok-print.ensures)))
+    (subst (LeadsOn c.args.config.now all (string_bytes c.loop-command.text) (machine_of c.loop-command.system) (ports_of c.loop-command.system)) cut c.loop-command.invariant) (says_told (turn (machine_of c.loop-command.system) one) (ports_of c.loop-command.system) _ _ (string_bytes c.loop-command.text) _ (search (rules, c.in_ok-play.ensures)))
 
 pub returns : goal.returns
 returns g c =

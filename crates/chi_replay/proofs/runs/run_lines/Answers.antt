@@ -5,7 +5,7 @@ use Rattle.chi_script.specs.Files.{lines_of, commands_of}
 use Rattle.chi_script.proofs.CommandLoop.{stops, is_open}
 use Rattle.chi_replay.specs.Session.{machine_of, ports_of}
 use Rattle.chi_replay.specs.Turns.{turn}
-use Rattle.chi_replay.proofs.Leads.{says_reply}
+use Rattle.chi_replay.proofs.Leads.{says_told}
 use Rattle.chi_replay.proofs.LineRuns.{played_none, played_line, played_all}
 use Rattle.chi_replay.proofs.runs.run_lines.Goals as goal
 
@@ -24,7 +24,7 @@ returns-in_err-command-clause-err g c =
 pub loop-line-preserved : goal.loop-line-preserved
 loop-line-preserved g c = record {
   so_far = played_line c.args.config.now c.args.lines.now c.loop-line.number c.loop-line.rest.now c.in-Some.line.now c.in-Some.after.now (string_bytes c.loop-line.text) _ (machine_of c.loop-line.system) _ (ports_of c.loop-line.system) _ c.in_ok-command.command
-      c.in-Some.ensures.some c.in_ok-command.ensures (says_reply (turn (machine_of c.loop-line.system) c.in_ok-command.command) (ports_of c.loop-line.system) _ _ (string_bytes c.loop-line.text) _ c.answer-reply.result (search (rules, c.answer-reply.ensures)) (search (rules, c.in_ok-print.ensures))) c.loop-line.invariant.so_far;
+      c.in-Some.ensures.some c.in_ok-command.ensures (says_told (turn (machine_of c.loop-line.system) c.in_ok-command.command) (ports_of c.loop-line.system) _ _ (string_bytes c.loop-line.text) _ (search (rules, c.in_ok-play.ensures))) c.loop-line.invariant.so_far;
   count = omega (arith, c.in-Some.ensures.shorter, c.loop-line.invariant.count);
 }
 

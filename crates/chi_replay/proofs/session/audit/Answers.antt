@@ -13,4 +13,4 @@ returns g c =
     let did = c.headline-found in
     let audit = did.result in
     let found : IsAudited did.new.self.home.slices audit.loads audit.stores audit.coherent = search (rules, did.ensures.audited) in
-    subst (λ (y : SystemState). PlaysTurn Audit y did.new.self (replies.Audit audit)) did.ensures.same (audit_plays did.new.self audit found did.ensures.headline)
+    (replies.Audit audit, subst (λ (y : SystemState). PlaysTurn Audit y did.new.self (replies.Audit audit)) did.ensures.same (audit_plays did.new.self audit found did.ensures.headline), c.hear.ensures)

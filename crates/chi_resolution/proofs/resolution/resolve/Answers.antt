@@ -3,6 +3,7 @@ use Rattle.chi_resolution.specs.Resolution.{resolution_of}
 use Rattle.chi_resolution.proofs.Balance.{balanced_where}
 use Rattle.chi_resolution.proofs.GrantLemmas.{due_where, trace_due}
 use Rattle.chi_resolution.proofs.Kept.{trace_kept}
+use Rattle.chi_resolution.proofs.Refusals.{refused_where}
 use Rattle.chi_resolution.proofs.Steps.{goes_on, is_done, stops}
 use Rattle.chi_resolution.proofs.resolution.resolve.Goals as goal
 
@@ -26,6 +27,7 @@ returns-in-Some g c =
           balanced_where c.args.options.early_grants c.ended.result (λ r. r.accounts.items) (resolution_of c.args.options c.args.seen.now).progress.table.accounts (rw (← e) c.ended.ensures.accounts)
           (trace_kept c.args.options c.args.seen.now);
       grants = due_where c.args.options c.args.seen.now c.ended.result (λ r. r.fault) (resolution_of c.args.options c.args.seen.now).fault (rw (← e) c.ended.ensures.fault) (trace_due c.args.options c.args.seen.now);
+      refused = refused_where c.args.options c.args.seen.now c.ended.result (λ r. r.fault) (rw (← e) c.ended.ensures.fault);
     }
 
 pub returns : goal.returns
@@ -44,4 +46,5 @@ returns g c =
           balanced_where c.args.options.early_grants c.ended-2.result (λ r. r.accounts.items) (resolution_of c.args.options c.args.seen.now).progress.table.accounts (rw (← e) c.ended-2.ensures.accounts)
           (trace_kept c.args.options c.args.seen.now);
       grants = due_where c.args.options c.args.seen.now c.ended-2.result (λ r. r.fault) (resolution_of c.args.options c.args.seen.now).fault (rw (← e) c.ended-2.ensures.fault) (trace_due c.args.options c.args.seen.now);
+      refused = refused_where c.args.options c.args.seen.now c.ended-2.result (λ r. r.fault) (rw (← e) c.ended-2.ensures.fault);
     }

@@ -11,18 +11,18 @@ pub returns-in_err-header : goal.returns-in_err-header
 returns-in_err-header g c =
     let p = err_from_is_err_and c.from_residual.result c.from_residual.ensures.1 in
     let plain : is_comment c.in-Some.line.now ≡ false = sym c.is_comment.ensures ∙ c.if-not-is_comment.true in
-    rw (p.1, p.2) (bad_header c.in_err-header.field-0.0 c.loop-line.number c.loop-line.rest.now c.in-Some.line.now c.in-Some.after.now (check_script_of 1 (lines_of c.args.bytes.now)) c.in-Some.ensures.some plain c.in_err-header.ensures.read c.loop-line.invariant.so_far)
+    rw (p.1, p.2) (bad_header c.in_err-header.field-0.0 c.loop-line.number c.loop-line.rest.now c.in-Some.line.now c.in-Some.after.now (check_script_of 1 (lines_of c.args.bytes.now)) c.in-Some.ensures.some plain c.in_err-header.ensures c.loop-line.invariant.so_far)
 
 pub returns-in_err-checks : goal.returns-in_err-checks
 returns-in_err-checks g c =
     let p = err_from_is_err_and c.from_residual-in_err-checks.result c.from_residual-in_err-checks.ensures.1 in
     let plain : is_comment c.in-Some.line.now ≡ false = sym c.is_comment.ensures ∙ c.if-not-is_comment.true in
-    rw (p.1, p.2) (bad_checks c.in_err-checks.field-0.0 c.loop-line.number c.loop-line.rest.now c.in-Some.line.now c.in-Some.after.now c.in_ok-header.header (check_script_of 1 (lines_of c.args.bytes.now)) c.in-Some.ensures.some plain c.in_ok-header.ensures.read c.in_err-checks.ensures c.loop-line.invariant.so_far)
+    rw (p.1, p.2) (bad_checks c.in_err-checks.field-0.0 c.loop-line.number c.loop-line.rest.now c.in-Some.line.now c.in-Some.after.now c.in_ok-header.header (check_script_of 1 (lines_of c.args.bytes.now)) c.in-Some.ensures.some plain c.in_ok-header.ensures c.in_err-checks.ensures c.loop-line.invariant.so_far)
 
 pub returns-then-not-is_comment : goal.returns-then-not-is_comment
 returns-then-not-is_comment g c =
     let plain : is_comment c.in-Some.line.now ≡ false = sym c.is_comment.ensures ∙ c.if-not-is_comment.true in
-    good c.loop-line.number c.loop-line.rest.now c.in-Some.line.now c.in-Some.after.now c.in_ok-header.header (map line_of_check c.in_ok-checks.checks.items) (check_script_of 1 (lines_of c.args.bytes.now)) c.in-Some.ensures.some plain c.in_ok-header.ensures.read c.in_ok-checks.ensures c.loop-line.invariant.so_far
+    good c.loop-line.number c.loop-line.rest.now c.in-Some.line.now c.in-Some.after.now c.in_ok-header.header (map line_of_check c.in_ok-checks.checks.items) (check_script_of 1 (lines_of c.args.bytes.now)) c.in-Some.ensures.some plain c.in_ok-header.ensures c.in_ok-checks.ensures c.loop-line.invariant.so_far
 
 pub loop-line-preserved : goal.loop-line-preserved
 loop-line-preserved g c =

@@ -1,6 +1,7 @@
 -- What came of the node's agents.
-use Rattle.std.proofs.Common.{ℕ, sym, ◌∙◌, ap, subst}
+use Rattle.std.proofs.Common.{ℕ, map, sym, ◌∙◌, ap, subst}
 use Rattle.chi_slice.specs.Words.{Sizes}
+use Rattle.chi_agent.specs.Ended.{report_of}
 use Rattle.chi_agent.specs.Runs.{KeepsTold}
 use Rattle.chi_agent.proofs.Numbers.{are_numbered}
 use Rattle.chi_storm.specs.Scripts.{scripts_below}
@@ -22,14 +23,12 @@ returns g c =
     let scripts = c.in_ok-scripts.ensures.scripts ∙ ap (λ (n : ℕ). scripts_below n deeds) c.agents-agents.ensures.value in
     record {
       node = c.in_ok-node.node;
-      requesters = ended.requesters.items;
-      told = ended.reports.items;
+      results = ended.results.items;
       kept = ended.gathered.reports;
-      not_open = ended.not_open.items;
       sizes = made.config;
       shape = made.tracker;
       own = ran.own;
-      lives = storm_lives c.in_ok-node.node c.args.config.now c.args.deeds.now c.args.seed c.args.turns c.in_ok-node.requesters.items _ ended.requesters.items ended.reports.items ended.not_open.items made.config made.requesters scripts ran.lives;
-      as_told = subst (λ (z : Sizes). KeepsTold z.agents ended.reports.items ended.gathered.reports) made.config ran.kept;
+      lives = storm_lives c.in_ok-node.node c.args.config.now c.args.deeds.now c.args.seed c.args.turns c.in_ok-node.requesters.items _ ended.results.items made.config made.requesters scripts ran.lives;
+      as_told = subst (λ (z : Sizes). KeepsTold z.agents (map report_of ended.results.items) ended.gathered.reports) made.config ran.kept;
       outcome = c.outcome_of.ensures;
     }

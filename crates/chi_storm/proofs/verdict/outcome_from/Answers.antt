@@ -16,6 +16,6 @@ returns g c =
       finished = c.finished_in.ensures;
       loads = c.audit_of-audit.ensures.loads;
       stores = c.audit_of-audit.ensures.stores;
-      holdings = search (rules, c.totals_told.ensures, c.profile.ensures);
-      verdict = judged c.args.slices.now c.args.not_open.now c.audit_of-audit.result.coherent c.args.agree c.verdict_of.result c.audit_of-audit.ensures.coherent c.verdict_of.ensures;
+      holdings = search (rules, c.profile-profile.ensures);
+      verdict = judged c.args.slices.now c.audit_of-audit.result.coherent c.args.agree c.args.all_open c.audit_of-audit.ensures.coherent;
     }

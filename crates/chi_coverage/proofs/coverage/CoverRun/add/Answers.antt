@@ -2,7 +2,8 @@
 use Rattle.std.proofs.Common.{[], ap, string_bytes, option_map}
 use Rattle.chi_script.specs.declared.faults.Fault.TheVariants.{Read}
 use Rattle.chi_replay.specs.Suites.{given_of}
-use Rattle.chi_coverage.proofs.Covering.{cover_state, goes_unread, may_be_unread}
+use Rattle.chi_coverage.specs.Counts.{cover_state}
+use Rattle.chi_coverage.proofs.Covering.{goes_unread, may_be_unread}
 use Rattle.chi_coverage.proofs.coverage.CoverRun.add.Goals as goal
 
 pub returns-in-None : goal.returns-in-None

@@ -6,8 +6,8 @@ use Rattle.chi_script.specs.Faults.{Fails}
 use Rattle.chi_script.specs.CheckFiles.{check_file_of}
 use Rattle.chi_script.specs.Files.{IsOneLine}
 use Rattle.chi_replay.specs.Suites.{given}
-use Rattle.chi_coverage.specs.Counts.{IsCountedFile}
-use Rattle.chi_coverage.proofs.Covering.{cover_state, goes_counted, goes_unread, keeps_counts, may_be_faulty}
+use Rattle.chi_coverage.specs.Counts.{IsCountedFile, cover_state}
+use Rattle.chi_coverage.proofs.Covering.{goes_counted, goes_unread, keeps_counts, may_be_faulty}
 use Rattle.chi_coverage.proofs.coverage.CoverRun.add_bytes.Goals as goal
 
 -- what a vector has, when a slice of as many numbers was written into it

@@ -1,8 +1,8 @@
 -- A file that couldn't be read was left out.
 use Rattle.std.proofs.Common.{ap, option_map, refl, string_bytes}
 use Rattle.chi_replay.specs.Suites.{given_of}
-use Rattle.chi_coverage.specs.Merging.{unread}
-use Rattle.chi_coverage.proofs.Adding.{goes_fault, may_unread, merge_state}
+use Rattle.chi_coverage.specs.Merging.{unread, merge_state}
+use Rattle.chi_coverage.proofs.Adding.{goes_fault, may_unread}
 use Rattle.chi_coverage.proofs.merging.MergeRun.add.Goals as goal
 
 pub returns-in-None : goal.returns-in-None

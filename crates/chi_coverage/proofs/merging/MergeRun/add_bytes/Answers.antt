@@ -1,8 +1,8 @@
 -- A report was added, or what is none was left out.
 use Rattle.std.proofs.Common.{Some, refl, string_bytes}
 use Rattle.chi_replay.specs.Suites.{given}
-use Rattle.chi_coverage.specs.Merging.{no_report}
-use Rattle.chi_coverage.proofs.Adding.{goes_fault, goes_sum, may_add, may_leave_out, merge_state}
+use Rattle.chi_coverage.specs.Merging.{no_report, merge_state}
+use Rattle.chi_coverage.proofs.Adding.{goes_fault, goes_sum, may_add, may_leave_out}
 use Rattle.chi_coverage.proofs.merging.MergeRun.add_bytes.Goals as goal
 
 pub returns-in-Some : goal.returns-in-Some

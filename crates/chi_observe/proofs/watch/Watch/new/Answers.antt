@@ -1,4 +1,6 @@
 -- Each table is empty.
+use Rattle.std.specs.Prelude.{replicate}
+use Rattle.chi_observe.specs.Judges.{last_of}
 use Rattle.chi_observe.specs.Lines.{lines_in}
 use Rattle.chi_observe.specs.Watched.{nothing_counted}
 use Rattle.chi_observe.proofs.watch.Watch.new.Goals as goal
@@ -12,4 +14,6 @@ returns g c = λ i. record {
   accounts = c.new-4.ensures.empty i;
   lines = lines_in (c.new-5.ensures.empty i);
   counts = nothing_counted;
+  past = last_of (replicate 32 0);
+  named = c.new-7.ensures.empty i;
 }

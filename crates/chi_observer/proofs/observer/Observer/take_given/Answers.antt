@@ -14,7 +14,7 @@ pub returns-clause-after : goal.returns-clause-after
 returns-clause-after c =
     let old = c.args.self.now in
     let low : c.from-at.result < length old.agents = search (rules, arith) in
-    given_by old.agents old.home old.current old.duty old.thrown c.granted.result c.shown-self.result c.current_granted-self.result c.duty_granted-self.result c.thrown_granted-self.result
+    given_by old.stores old.agents old.home old.current old.duty old.thrown c.granted.result c.shown-self.result c.current_granted-self.result c.duty_granted-self.result c.thrown_granted-self.result
     c.args.flit c.from-at.result c.is_shown-shows.result
     c.from-at.ensures low c.granted.ensures c.is_shown-shows.ensures c.shown-self.ensures c.current_granted-self.ensures c.duty_granted-self.ensures c.thrown_granted-self.ensures
 

@@ -15,4 +15,4 @@ returns-clause-after c =
     let told : observed mid ≡ after (observed old) flit = c.in_ok-take_told.ensures.after in
     noted mid (after (observed old) flit) old.waits waits old.shown c.shown_behind-self.result flit told
     (c.waits_behind-self.ensures ∙ ap (λ (w : Bool). waits_here mid.agents flit w) c.take_told.ensures.waits)
-    (λ n. c.shown_behind-self.ensures n ∙ ap (λ (xs : List Bool). waits && shown_here mid.agents mid.current flit (shown_of xs n) n) c.take_told.ensures.shown)
+    (λ n. c.shown_behind-self.ensures n ∙ ap (λ (xs : List Bool). waits && shown_here mid.stores mid.agents mid.current flit (shown_of xs n) n) c.take_told.ensures.shown)

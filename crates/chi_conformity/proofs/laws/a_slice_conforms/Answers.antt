@@ -1,0 +1,12 @@
+use Rattle.chi_conformity.proofs.Runs.{conform}
+use Rattle.chi_conformity.proofs.laws.a_slice_conforms.Goals as goal
+
+pub returns : goal.returns
+returns c = conform (record {
+  closed = c.meaning.ensures.closed;
+  taken = c.cache_flits.ensures.taken;
+  leads = c.cache_flits.ensures.leads;
+  kept = c.cache_flits.ensures.sound;
+  home_kept = c.home_flits.ensures.sound;
+  home_leads = c.home_flits.ensures.leads;
+})

@@ -1,0 +1,16 @@
+//! A law of the slice and the observer.
+
+ghost use Rattle.chi_conformity.specs.Conformity.{SlicesConform};
+
+use chi_observer::{cache_flits, home_flits, meaning};
+
+/// The law that an observer of a line takes each flit that the actions of a slice send there, in the order in which they
+/// are sent, and each load and store there, whatever the actions are.
+/// Source: `docs/OBSERVER.md`, "What is proved".
+pub fn a_slice_conforms()
+    ensures { SlicesConform }
+{
+    meaning();
+    cache_flits();
+    home_flits();
+}

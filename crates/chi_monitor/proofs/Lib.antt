@@ -1,0 +1,16 @@
+pub mod TurnFits
+pub mod TurnSteps
+pub mod TurnLanes
+pub mod TurnOwn
+pub mod TurnSent
+pub mod TurnAnswers
+pub mod TurnLaw
+pub mod SearchLoop
+pub mod HomeFits
+pub mod HomeKept
+pub mod HomeSteps
+pub mod HomeAnswers
+pub mod HomeSnoops
+pub mod HomeReceipts
+pub mod HomeRun
+pub mod HomeLaw

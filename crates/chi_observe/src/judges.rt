@@ -1,0 +1,309 @@
+//! What judges the flits of a line of memory: an observer from the trace's beginning, one that begins in the middle, or one
+//! of what the home receives.
+
+ghost use Rattle.std.specs.Prelude.{◌≡◌, ◌<◌, IfErr, IfOk, OnErr, true};
+ghost use Rattle.chi_observer.specs.Arriving.{holds_none};
+ghost use Rattle.chi_observer.specs.Begun.{begun};
+ghost use Rattle.chi_observer.specs.Lines.{watched};
+ghost use Rattle.chi_observe.specs.Judges.{before_of, fault_of, holds, is_judge_fault, judged, line_judged, opened_from, told_in, verdict, verdict_of, wake, woken};
+
+use crate::marks::teller_of;
+use chi_flit::Agent;
+use chi_observer::{
+    AGENTS, AgentSeen, Arrivals, Begun, Certainty, Due, Flit, Held, Observer, Reason, Stores, Told,
+    Untaken,
+};
+use std::alloc::{AllocError, Allocator};
+
+/// How a log was taken.
+/// Source: `docs/OBSERVER.md`, "What is printed".
+#[derive(Clone, Copy, Debug, PartialEq, Eq)]
+pub enum Log {
+    /// Each flit stands where it is sent, and before the first no cache has a copy, no request is open, and memory has any
+    /// words.
+    Whole,
+    /// So too, but it is cut out of a longer one: before the first flit the lines are anything.
+    Tail,
+    /// A flit of a cache stands where the home receives it; it begins as a whole one.
+    Home,
+}
+
+/// What is known of what was before the trace.
+#[derive(Drop)]
+pub(crate) struct Before<'a> {
+    pub log: Log,
+    pub stores: Stores,
+    /// Of each agent the number of the trace's line that is its last flit which names an id from before, and so no line of
+    /// memory; 0 where there is none.
+    pub last: &'a [usize; 32],
+}
+
+/// An observer of a line that begins in the middle.
+#[derive(Drop)]
+pub(crate) struct BegunLine {
+    pub begun: Begun,
+    /// The number of the trace's line that it was told last, or that came before its first.
+    pub synced: usize,
+}
+
+/// What judges the flits of a line.
+#[derive(Drop)]
+pub(crate) enum Judge<A: Allocator> {
+    /// From the trace's beginning.
+    Whole(Observer),
+    /// From the middle.
+    Begun(Box<BegunLine, A>),
+    /// By what the home receives.
+    Home(Box<Arrivals, A>),
+}
+
+/// Why a flit isn't taken that breaks a rule, if it isn't.
+fn untaken(taken: Result<(), Reason>) -> Result<(), Untaken>
+    ensures { result ≡ fault_of taken }
+{
+    match taken {
+        Ok(()) => Ok(()),
+        Err(reason) => Err(Untaken::Fault(reason)),
+    }
+}
+
+impl BegunLine {
+    /// The same.
+    fn copy(&self) -> BegunLine
+        ensures { line_judged result ≡ line_judged self.now }
+    {
+        BegunLine {
+            begun: self.begun_copy(),
+            synced: self.synced,
+        }
+    }
+
+    /// The same observer.
+    fn begun_copy(&self) -> Begun
+        ensures { begun result ≡ begun self.now.begun }
+    {
+        Begun {
+            observer: copy_of(&self.begun.observer),
+            agents: self.begun.agents,
+        }
+    }
+
+    /// The observer, to which the agents' flits from before may have been told since.
+    fn woken(&self, before: &Before) -> Begun
+        ensures { begun result ≡ woken (before_of before.now) self.now.synced (begun self.now.begun) }
+    {
+        let mut next = self.begun_copy();
+        for n in 0..32u8 {
+            wake(&mut next, before, self.synced, n);
+        }
+        next
+    }
+
+    /// Takes the next flit of the line, which has this number.
+    fn take(&mut self, flit: Flit, before: &Before, number: usize) -> Result<(), Untaken>
+        ensures verdict { verdict_of result (line_judged self.new)
+            ≡ verdict (before_of before.now) number (line_judged self.old) flit }
+        ensures kept { OnErr result (line_judged self.new ≡ line_judged self.old) }
+        ensures fault { IfErr result
+            (λ why. is_judge_fault (before_of before.now) (line_judged self.old) flit why ≡ true) }
+    {
+        let mut next = self.woken(before);
+        if let Err(reason) = next.take(flit) {
+            return Err(Untaken::Fault(reason));
+        }
+        self.begun = next;
+        self.synced = number;
+        Ok(())
+    }
+}
+
+/// Tells an observer that a flit from before may have been of its line, if the agent of this number had one since.
+fn wake(line: &mut Begun, before: &Before, synced: usize, number: u8)
+    requires { number < 32 }
+    ensures { begun line.new ≡ wake (before_of before.now) synced number (begun line.old) }
+{
+    if before.last[usize::from(number)] > synced {
+        line.forget(Agent(number));
+    }
+}
+
+/// Whether no request is held.
+fn is_none(held: Held) -> bool
+    ensures { result ≡ holds_none held }
+{
+    matches!(held, Held::Nothing)
+}
+
+/// An agent of whom nothing was told.
+const NOBODY: AgentSeen = AgentSeen {
+    told: Told::I,
+    cancelled: false,
+    due: Due::Nothing,
+    snooped: None,
+};
+
+/// An observer that knows of these two agents alone what the given one does.
+fn pair_of(observer: &Observer, one: usize, other: usize) -> Observer {
+    let mut agents = [NOBODY; 32];
+    agents[one % AGENTS] = observer.agents[one % AGENTS];
+    agents[other % AGENTS] = observer.agents[other % AGENTS];
+    Observer {
+        stores: observer.stores,
+        agents,
+        home: observer.home,
+        current: observer.current,
+        duty: observer.duty,
+        thrown: observer.thrown,
+        waits: observer.waits,
+        shown: observer.shown,
+    }
+}
+
+/// The same observer.
+fn copy_of(observer: &Observer) -> Observer
+    ensures { result ≡ observer.now }
+{
+    Observer {
+        stores: observer.stores,
+        agents: observer.agents,
+        home: observer.home,
+        current: observer.current,
+        duty: observer.duty,
+        thrown: observer.thrown,
+        waits: observer.waits,
+        shown: observer.shown,
+    }
+}
+
+/// The same of what the home receives.
+fn arrivals_copy(arrivals: &Arrivals) -> Arrivals
+    ensures { result ≡ arrivals.now }
+{
+    Arrivals {
+        seen: copy_of(&arrivals.seen),
+        agents: arrivals.agents,
+        timed: arrivals.timed,
+    }
+}
+
+impl<A: Allocator> Judge<A> {
+    /// That of a line which no flit has touched before the one with this number.
+    pub(crate) fn new(
+        alloc: A,
+        log: Log,
+        stores: Stores,
+        number: usize,
+    ) -> Result<Judge<A>, AllocError>
+        ensures { IfOk result (λ judge. judged judge ≡ opened_from log stores number) }
+    {
+        match log {
+            Log::Whole => Ok(Judge::Whole(Observer::new(stores))),
+            Log::Tail => {
+                let begun = Begun::new(stores);
+                let line = BegunLine {
+                    begun,
+                    synced: number,
+                };
+                Ok(Judge::Begun(Box::new(alloc, line)?))
+            }
+            Log::Home => Ok(Judge::Home(Box::new(alloc, Arrivals::new())?)),
+        }
+    }
+
+    /// Takes the next flit of the line, which has this number; where it isn't taken nothing changes.
+    pub(crate) fn take(&mut self, flit: Flit, before: &Before, number: usize) -> Result<(), Untaken>
+        ensures verdict { verdict_of result (judged self.new)
+            ≡ verdict (before_of before.now) number (judged self.old) flit }
+        ensures kept { OnErr result (judged self.new ≡ judged self.old) }
+        ensures fault { IfErr result
+            (λ why. is_judge_fault (before_of before.now) (judged self.old) flit why ≡ true) }
+    {
+        match self {
+            Judge::Whole(observer) => untaken(observer.take(flit)),
+            Judge::Begun(line) => line.take(flit, before, number),
+            Judge::Home(arrivals) => arrivals.take(flit),
+        }
+    }
+
+    /// The same.
+    pub(crate) fn copy_in(&self, alloc: A) -> Result<Judge<A>, AllocError>
+        ensures { IfOk result (λ judge. judged judge ≡ judged self.now) }
+    {
+        match self {
+            Judge::Whole(observer) => Ok(Judge::Whole(copy_of(observer))),
+            Judge::Begun(line) => Ok(Judge::Begun(Box::new(alloc, line.copy())?)),
+            Judge::Home(arrivals) => { Ok(Judge::Home(Box::new(alloc, arrivals_copy(arrivals))?)) }
+        }
+    }
+
+    /// Whether it takes the flit, or leaves open what that tells.
+    pub(crate) fn takes(&self, flit: Flit, before: &Before) -> bool {
+        match self {
+            Judge::Whole(observer) => copy_of(observer).take(flit).is_ok(),
+            Judge::Begun(line) => line.woken(before).take(flit).is_ok(),
+            Judge::Home(arrivals) => {
+                let taken = arrivals_copy(arrivals).take(flit);
+                !matches!(taken, Err(Untaken::Fault(_)))
+            }
+        }
+    }
+
+    /// Whether the other agent's copy alone doesn't let the flit be taken.
+    pub(crate) fn is_in_the_way(&self, flit: Flit, other: usize) -> bool {
+        let agent = usize::from(teller_of(flit).0);
+        let mut pair = pair_of(self.observer(), agent, other);
+        let taken = match self {
+            Judge::Whole(_) | Judge::Home(_) => pair.take(flit),
+            Judge::Begun(line) => {
+                let agents = line.begun.agents;
+                let mut begun = Begun {
+                    observer: pair,
+                    agents,
+                };
+                begun.take(flit)
+            }
+        };
+        other != agent && matches!(taken, Err(Reason::OtherCopy))
+    }
+
+    /// How much is known of an agent's copy.
+    pub(crate) fn certainty(&self, agent: usize) -> Certainty {
+        match self {
+            Judge::Whole(_) | Judge::Home(_) => Certainty::Told,
+            Judge::Begun(line) => match line.begun.agents.get(agent) {
+                Some(mark) => mark.copy,
+                None => Certainty::Unknown,
+            },
+        }
+    }
+
+    /// Whether something isn't known of the copies of the first agents, so many.
+    pub(crate) fn is_unknown(&self, agents: usize) -> bool {
+        (0..agents).any(|agent| !matches!(self.certainty(agent), Certainty::Told))
+    }
+
+    /// What flits have told.
+    pub(crate) fn observer(&self) -> &Observer
+        ensures { watched result.now ≡ told_in (judged self.now) }
+    {
+        match self {
+            Judge::Whole(observer) => observer,
+            Judge::Begun(line) => &line.begun.observer,
+            Judge::Home(arrivals) => &arrivals.seen,
+        }
+    }
+
+    /// Whether a request of the agent came that isn't told yet.
+    pub(crate) fn holds(&self, agent: Agent) -> bool
+        ensures { result ≡ holds (judged self.now) agent.0 }
+    {
+        match self {
+            Judge::Whole(_) => false,
+            Judge::Begun(_) => false,
+            Judge::Home(arrivals) => match arrivals.agents.get(usize::from(agent.0)) {
+                Some(own) => !is_none(own.held),
+                None => false,
+            },
+        }
+    }
+}
