@@ -130,7 +130,9 @@ fn are_same_arrivals(one: &Arrivals, other: &Arrivals) -> bool
     ensures { IsTrue result ↔ (arrived one.now ≡ arrived other.now) }
 {
     let timed = one.timed == other.timed;
-    timed & is_same_observer(&one.seen, &other.seen) & are_same_arrivings(&one.agents, &other.agents)
+    timed
+        & is_same_observer(&one.seen, &other.seen)
+        & are_same_arrivings(&one.agents, &other.agents)
 }
 
 /// Whether two lists of nodes are the same.

@@ -7,8 +7,8 @@ ghost use Rattle.chi_program.specs.CommandLines.{IsAsked, IsCommand, asked_behin
 
 use crate::faults::ArgFault;
 use crate::options::{
-    CellForm, RowRange, address, commands, context, form, is_given, least, only, rows, seed, seen, start,
-    stores, turns, types, watched_types, wild,
+    CellForm, RowRange, address, commands, context, form, is_given, least, only, rows, seed, seen,
+    start, stores, turns, types, watched_types, wild,
 };
 use crate::usages::{Topic, topic_of};
 use chi_explain::StoreListing;
