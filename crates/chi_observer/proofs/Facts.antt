@@ -66,6 +66,10 @@ pub one_of : (a b : Bool) → (a || b) ≡ true → b ≡ false → a ≡ true
 one_of true b h e = refl
 one_of false b h e = no (sym e ∙ h)
 
+pub other_of : (a b : Bool) → (a || b) ≡ true → a ≡ false → b ≡ true
+other_of true b h e = no (sym e)
+other_of false b h e = h
+
 -- what is sent with data has data, and what writes without a copy is told so
 abbrev pub on_some : Option Held → (Held → Bool) → Bool
 on_some None f = true

@@ -61,11 +61,11 @@ module _ (o : Observed) (g : HomeFlit) (w w' : World) (sound : Sound o) (low : g
   here_words v false false e hz = gives.words v e ∙ words_after e v (fills g.grant s) refl ∙ sym (last_same e hz)
 
   -- beside what its agent writes there is none
-  alone : makes g.grant d ≡ true → (k : ℕ) → k ≢ n → k < 32 → holds_data (w.state k).copy ≡ false
+  pub alone : makes g.grant d ≡ true → (k : ℕ) → k ≢ n → k < 32 → holds_data (w.state k).copy ≡ false
   alone e k h lk = beside_unique (granted g.grant d s).copy (w.state k).copy (left _ _ (made_copy g.grant d s.copy e))
       (below mode d' (o.public.due k) t' (o.told k) (granted g.grant d s) (w.state k) (reached o g low may s (m.told n low)) (m.told k lk) (goes_else o g sound low takes k h lk))
 
-  none_else : settles g.grant d ≡ true → (k : ℕ) → k ≢ n → k < 32 → holds_data (w.state k).copy ≡ false
+  pub none_else : settles g.grant d ≡ true → (k : ℕ) → k ≢ n → k < 32 → holds_data (w.state k).copy ≡ false
   none_else z k h lk = ap holds_data (same_is (w.state k).copy Invalid (none_left o.public.stores (o.public.due k) (o.told k) (w.state k) (gone_else o g sound low takes (settled_alone g.grant d z) k h lk) (m.told k lk)))
 
   else_words : (k : ℕ) → k ≢ n → k < 32 → holds_data (w.state k).copy ≡ true → (b z : Bool) → makes g.grant d ≡ b → settles g.grant d ≡ z → w.words k ≡ w'.last

@@ -26,11 +26,11 @@ if_needed true b h = h refl
 if_needed false b h = refl
 
 -- the moment that a flit of the home needs
-has_needed : (mode : Stores) (es : List Flit) (g : HomeFlit) → Accepted mode es → g.agent.0 < 32 → IsExact mode es → has_moment (seen mode es) (shown_by mode es) g ≡ true → HasNeeded mode es g
+pub has_needed : (mode : Stores) (es : List Flit) (g : HomeFlit) → Accepted mode es → g.agent.0 < 32 → IsExact mode es → has_moment (seen mode es) (shown_by mode es) g ≡ true → HasNeeded mode es g
 has_needed mode es g a low e h c = moment_shown mode es a g.agent.0 low
     (needed_by (needs_moment g.grant ((seen mode es).public.due g.agent.0)) (shown_by mode es g.agent.0) h (ap (λ (p : Public). needs_moment g.grant (p.due g.agent.0)) e.public ∙ c))
 
-has_shown : (mode : Stores) (es : List Flit) (g : HomeFlit) → Accepted mode es → g.agent.0 < 32 → IsExact mode es → HasNeeded mode es g → has_moment (seen mode es) (shown_by mode es) g ≡ true
+pub has_shown : (mode : Stores) (es : List Flit) (g : HomeFlit) → Accepted mode es → g.agent.0 < 32 → IsExact mode es → HasNeeded mode es g → has_moment (seen mode es) (shown_by mode es) g ≡ true
 has_shown mode es g a low e h = if_needed (needs_moment g.grant ((seen mode es).public.due g.agent.0)) (shown_by mode es g.agent.0)
     (λ c. shown_moment mode es a g.agent.0 low (h (sym (ap (λ (p : Public). needs_moment g.grant (p.due g.agent.0)) e.public) ∙ c)))
 

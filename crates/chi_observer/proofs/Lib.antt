@@ -21,7 +21,16 @@ mod Since
 mod Values
 mod Sent
 mod Legal
+mod ListedWords
+mod ListedKnown
+mod ListedSent
+mod ListedGiven
+mod ListedBefore
+mod ListedComes
+mod ListedHome
+mod ListedRuns
 mod Lines
+mod ListedLines
 mod Middle
 mod Received
 mod Alike

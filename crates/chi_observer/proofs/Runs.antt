@@ -23,7 +23,7 @@ use Rattle.chi_observer.proofs.Copies.{home_kept}
 use Rattle.chi_observer.proofs.Home.{home_leads}
 use Rattle.chi_observer.proofs.Origin.{home_comes}
 
-drifts : (o : Observed) (w w' : World) → Sound o → Drift o.public w w' → Meaning o w → Meaning o w'
+pub drifts : (o : Observed) (w w' : World) → Sound o → Drift o.public w w' → Meaning o w → Meaning o w'
 drifts o w w' sound Stay m = m
 drifts o w w' sound (Step {u = u} {v = v} {w = w''} h d) m = drifts o v w'' sound d (closed o u v sound m h)
 

@@ -1,10 +1,11 @@
 -- The observer of a line whose flits are logged at the home: what a flit is taken as, and what is kept then
 -- (docs/OBSERVER.md, "Seen at the home"). It is told of requests behind what their agents sent first.
-use Rattle.std.specs.Prelude.{ℕ, Bool, true, false, List, ◌&&◌, ◌||◌, ◌==◌, not, nat_le, nat_lt, Result, Ok, Err, if◌then◌else◌}
+use Rattle.std.specs.Prelude.{ℕ, Bool, true, false, List, ◌&&◌, ◌||◌, ◌==◌, not, nat_le, nat_lt, Option, Result, Ok, Err, if◌then◌else◌}
 use Rattle.std.specs.List.{slice_index_or}
 use Rattle.chi_flit.specs.declared.state.State.TheVariants as states
 use Rattle.chi_observer.specs.declared.kinds.Kind.{Kind}
 use Rattle.chi_observer.specs.declared.kinds.Kind.TheVariants.{Evict}
+use Rattle.chi_observer.specs.declared.kinds.Snoop.{Snoop}
 use Rattle.chi_observer.specs.declared.told.Told.{Told}
 use Rattle.chi_observer.specs.declared.told.Told.TheVariants as tolds
 use Rattle.chi_observer.specs.declared.flits.Due.{Due}
@@ -95,7 +96,8 @@ abbrev pub with_line : Arrived → Watched → Arrived
 with_line s w = record { line = w; own = s.own; timed = s.timed }
 
 -- REQUESTS
--- nothing lists the stores: one that may have been sent before the last answers, and can't come from what the copy may be now: what is told stays
+-- nothing lists the stores: one that may have been sent before the last answers, and can't come from what the copy may be
+-- now: what is told stays
 abbrev pub is_from_before : Watched → ℕ → Kind → Earlier → Bool
 is_from_before w n k e = issued_before e k && not (fits_issue k true (w.seen.told n).told)
 
@@ -170,8 +172,18 @@ drifts_at w n = may_be_free (w.seen.public.due n) && is_unique (strongest (w.see
 abbrev pub is_sure : Bool → Bool → Bool → ℕ → ℕ → Bool
 is_sure drifting was own since asked = not drifting || (was || (own || nat_le since asked))
 
+abbrev pub sure_shown : Bool → (ℕ → Bool) → (ℕ → Bool) → (ℕ → Arriving) → ℕ → ℕ → Bool
+sure_shown drifting shown was own at n = shown n && is_sure drifting (was n) (n == at) (own n).since (own at).asked
+
+abbrev pub surely_shown : Watched → (ℕ → Bool) → (ℕ → Arriving) → ℕ → ℕ → Bool
+surely_shown w was own at n = sure_shown (drifts_at w at) w.shown was own at n
+
 abbrev pub answered : Arrived → Watched → CacheFlit → Watched
-answered s w f = with_shown w (λ n. w.shown n && is_sure (drifts_at w f.agent.0) (s.line.shown n) (n == f.agent.0) (s.own n).since (s.own f.agent.0).asked)
+answered s w f = with_shown w (λ n. surely_shown w s.line.shown s.own f.agent.0 n)
+
+-- what is told behind it, where w was before
+abbrev pub answered_line : Arrived → Watched → CacheFlit → Watched
+answered_line s w f = answered s (watch w (Up f)) f
 
 abbrev pub earlier_at : Arrived → CacheFlit → Earlier
 earlier_at s f =
@@ -187,15 +199,19 @@ ended (Taken s) n = Taken (with_line s (with_due s.line n Nothing))
 ended NotTaken n = NotTaken
 ended LeftOpen n = LeftOpen
 
+-- an Evict that was completed meanwhile
+abbrev pub evicted : Arrived → Watched → CacheFlit → Earlier → Outcome
+evicted s w f e = ended (issued s w (request_of f Evict) Evict e false) f.agent.0
+
 -- and then the request is judged that was held for them
 abbrev pub played : Held → Arrived → Watched → CacheFlit → Earlier → Outcome
 played helds.Nothing s w f e = Taken (with_own (with_line s w) f.agent.0 (own_told (s.own f.agent.0) e))
 played (helds.Open k) s w f e = issued s w (request_of f k) k e (is_timed k)
-played helds.Evicted s w f e = ended (issued s w (request_of f Evict) Evict e false) f.agent.0
+played helds.Evicted s w f e = evicted s w f e
 played helds.Retried s w f e = LeftOpen
 
 abbrev pub awaited : Arrived → CacheFlit → Outcome
-awaited s f = if is_taken (settled s f) (Up f) then played (s.own f.agent.0).held s (answered s (watch (settled s f) (Up f)) f) f (earlier_at s f) else NotTaken
+awaited s f = if is_taken (settled s f) (Up f) then played (s.own f.agent.0).held s (answered_line s (settled s f) f) f (earlier_at s f) else NotTaken
 
 abbrev pub sent_outcome : Act → Arrived → CacheFlit → Outcome
 sent_outcome (Request k) s f = requested s f k
@@ -241,9 +257,12 @@ is_full acks = nat_le 255 acks
 abbrev pub is_plain_snoop : Grant → Bool
 is_plain_snoop grant = needs_quiet grant && not (needs_overwriter grant)
 
+abbrev pub is_known_by : Due → Option Snoop → Known → Bool → Option (List ℕ) → HomeFlit → Bool
+is_known_by d q t duty home g = is_due g.grant d q && ((not (needs_duty g.grant) || duty)
+    && (not (is_plain_snoop g.grant) && (not (shows_told g.grant t) || fits home g.shown)))
+
 abbrev pub is_known : Observed → HomeFlit → Bool
-is_known o g = is_due g.grant (o.public.due g.agent.0) (o.public.snooped g.agent.0) && ((not (needs_duty g.grant) || o.public.duty)
-    && (not (is_plain_snoop g.grant) && (not (shows_told g.grant (o.told g.agent.0)) || fits o.home g.shown)))
+is_known o g = let n : ℕ = g.agent.0 in is_known_by (o.public.due n) (o.public.snooped n) (o.told n) o.public.duty o.home g
 
 abbrev pub is_doubtful : Arrived → HomeFlit → Bool
 is_doubtful s g = is_known s.line.seen g && (not (all_below 32 (λ m. holds_none (s.own m).held)) || ((s.own g.agent.0).delayed && needs_moment g.grant (s.line.seen.public.due g.agent.0)))
@@ -336,14 +355,17 @@ is_untaken_held other s f u = is_two_requests u
 abbrev pub is_untaken_again : Arrived → CacheFlit → Untaken → Bool
 is_untaken_again s f u = is_untaken_held (s.own f.agent.0).held s f u
 
+abbrev pub is_untaken_evicted : Watched → CacheFlit → Earlier → Untaken → Bool
+is_untaken_evicted w f e u = is_untaken_issue w (request_of f Evict) Evict e u
+
 abbrev pub is_untaken_played : Held → Watched → CacheFlit → Earlier → Untaken → Bool
 is_untaken_played helds.Nothing w f e u = false
 is_untaken_played (helds.Open k) w f e u = is_untaken_issue w (request_of f k) k e u
-is_untaken_played helds.Evicted w f e u = is_untaken_issue w (request_of f Evict) Evict e u
+is_untaken_played helds.Evicted w f e u = is_untaken_evicted w f e u
 is_untaken_played helds.Retried w f e u = is_retried u
 
 abbrev pub is_untaken_awaited : Arrived → CacheFlit → Untaken → Bool
-is_untaken_awaited s f u = if is_taken (settled s f) (Up f) then is_untaken_played (s.own f.agent.0).held (answered s (watch (settled s f) (Up f)) f) f (earlier_at s f) u else is_fault_of (settled s f) (Up f) u
+is_untaken_awaited s f u = if is_taken (settled s f) (Up f) then is_untaken_played (s.own f.agent.0).held (answered_line s (settled s f) f) f (earlier_at s f) u else is_fault_of (settled s f) (Up f) u
 
 abbrev pub is_untaken_sent : Act → Arrived → CacheFlit → Untaken → Bool
 is_untaken_sent (Request k) s f u = is_untaken_requested s f k u

@@ -7,7 +7,11 @@ pub mod Observed
 pub mod Moments
 pub mod Laws
 pub mod Runs
+pub mod Listed
+pub mod ListedRuns
+pub mod ListedLaws
 pub mod Lines
+pub mod ListedLines
 pub mod Begun
 pub mod Tails
 pub mod Arriving

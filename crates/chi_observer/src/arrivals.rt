@@ -1,12 +1,11 @@
 //! The observer of one line whose flits are logged at the home: those of a cache where they are received, however late.
 
-ghost use Rattle.std.specs.Prelude.{◌≡◌, ◌<◌, ◌&&◌, ◌||◌, ◌==◌, ℕ, IfErr, IfOk, OnErr, false, is_ok, not, true};
-ghost use Rattle.chi_observer.specs.Lines.{agent_of, is_reason, is_taken, known_of, shown_of, watch, watched};
-ghost use Rattle.chi_observer.specs.Rules.{is_due, needs_duty, needs_quiet};
-ghost use Rattle.chi_observer.specs.Tables.{fits_issue, shows_told};
-ghost use Rattle.chi_observer.specs.Observed.{fits};
+ghost use Rattle.std.specs.Prelude.{◌≡◌, ◌<◌, ◌&&◌, ◌||◌, ◌==◌, ℕ, IfErr, IfOk, OnErr, is_ok, not, true};
+ghost use Rattle.chi_observer.specs.Lines.{is_reason, is_taken, known_of, shown_of, watched};
+ghost use Rattle.chi_observer.specs.Rules.{needs_quiet};
+ghost use Rattle.chi_observer.specs.Tables.{fits_issue};
 ghost use Rattle.chi_observer.specs.Arriving.{issued_before, may_be_sent};
-ghost use Rattle.chi_observer.specs.Arrivals.{acknowledged, again, all_acknowledged, answered, arrived, arriving_of, awaited, drifts, ended, due_acknowledged, given, is_doubtful, is_fault_of, is_full, is_not_sent, is_plain_snoop, is_sure, is_unlost_at, is_untaken, is_untaken_again, is_untaken_awaited, is_untaken_given, is_untaken_issue, is_untaken_played, is_untaken_requested, is_untaken_sent, is_untaken_told, issued, leaves_unsure, line_issued, line_takes, none_held, nothing_arrived, outcome, outcome_of, played, request_of, requested, sent_outcome, settled, told_given, told_if, untaken_by, with_due, with_own, with_told};
+ghost use Rattle.chi_observer.specs.Arrivals.{acknowledged, again, all_acknowledged, answered_line, arrived, arriving_of, awaited, drifts, due_acknowledged, evicted, given, is_doubtful, is_fault_of, is_full, is_known_by, is_not_sent, is_plain_snoop, is_sure, is_unlost_at, is_untaken, is_untaken_again, is_untaken_awaited, is_untaken_evicted, is_untaken_given, is_untaken_issue, is_untaken_played, is_untaken_requested, is_untaken_sent, is_untaken_told, issued, leaves_unsure, line_issued, line_takes, none_held, nothing_arrived, outcome, outcome_of, played, request_of, requested, sent_outcome, settled, sure_shown, surely_shown, told_given, told_if, untaken_by, with_due, with_own, with_told};
 ghost use Rattle.chi_observer.specs.declared.flits.Flit.TheVariants.{Up};
 
 use crate::arriving::{Arriving, Bearing, Earlier, Held, Turn, is_timed, may_be_sent, timed_after};
@@ -104,9 +103,11 @@ impl Arrivals {
     fn receive(&mut self, sent: CacheFlit) -> Result<(), Untaken>
         requires agent { sent.agent.0 < 32 }
         requires timed { self.now.timed < 4294967295 }
-        ensures outcome { outcome_of result (arrived self.new) ≡ sent_outcome sent.act (arrived self.old) sent }
+        ensures outcome { outcome_of result (arrived self.new)
+            ≡ sent_outcome sent.act (arrived self.old) sent }
         ensures kept { OnErr result (self.new ≡ self.old) }
-        ensures untaken { IfErr result (λ why. is_untaken_sent sent.act (arrived self.old) sent why ≡ true) }
+        ensures untaken { IfErr result
+            (λ why. is_untaken_sent sent.act (arrived self.old) sent why ≡ true) }
     {
         match sent.act {
             Act::Request(kind) => self.receive_request(sent, kind),
@@ -124,9 +125,11 @@ impl Arrivals {
     fn receive_request(&mut self, sent: CacheFlit, kind: Kind) -> Result<(), Untaken>
         requires agent { sent.agent.0 < 32 }
         requires timed { self.now.timed < 4294967295 }
-        ensures outcome { outcome_of result (arrived self.new) ≡ requested (arrived self.old) sent kind }
+        ensures outcome { outcome_of result (arrived self.new)
+            ≡ requested (arrived self.old) sent kind }
         ensures kept { OnErr result (self.new ≡ self.old) }
-        ensures untaken { IfErr result (λ why. is_untaken_requested (arrived self.old) sent kind why ≡ true) }
+        ensures untaken { IfErr result
+            (λ why. is_untaken_requested (arrived self.old) sent kind why ≡ true) }
     {
         let at = usize::from(sent.agent.0);
         let own = self.agents[at];
@@ -149,7 +152,8 @@ impl Arrivals {
         requires { sent.agent.0 < 32 }
         ensures outcome { outcome_of result (arrived self.new) ≡ again (arrived self.old) sent }
         ensures kept { OnErr result (self.new ≡ self.old) }
-        ensures untaken { IfErr result (λ why. is_untaken_again (arrived self.old) sent why ≡ true) }
+        ensures untaken { IfErr result
+            (λ why. is_untaken_again (arrived self.old) sent why ≡ true) }
     {
         let at = usize::from(sent.agent.0);
         let own = self.agents[at];
@@ -170,7 +174,8 @@ impl Arrivals {
     /// Takes a CompAck.
     fn receive_acknowledgement(&mut self, sent: CacheFlit) -> Result<(), Untaken>
         requires { sent.agent.0 < 32 }
-        ensures outcome { outcome_of result (arrived self.new) ≡ acknowledged (arrived self.old) sent }
+        ensures outcome { outcome_of result (arrived self.new)
+            ≡ acknowledged (arrived self.old) sent }
         ensures kept { OnErr result (self.new ≡ self.old) }
         ensures untaken { IfErr result (λ why. is_not_sent why ≡ true) }
     {
@@ -189,7 +194,8 @@ impl Arrivals {
         requires timed { self.now.timed < 4294967295 }
         ensures outcome { outcome_of result (arrived self.new) ≡ awaited (arrived self.old) sent }
         ensures kept { OnErr result (self.new ≡ self.old) }
-        ensures untaken { IfErr result (λ why. is_untaken_awaited (arrived self.old) sent why ≡ true) }
+        ensures untaken { IfErr result
+            (λ why. is_untaken_awaited (arrived self.old) sent why ≡ true) }
     {
         let at = usize::from(sent.agent.0);
         let own = self.agents[at];
@@ -213,9 +219,11 @@ impl Arrivals {
     ) -> Result<(), Untaken>
         requires agent { sent.agent.0 < 32 }
         requires timed { self.now.timed < 4294967295 }
-        ensures outcome { outcome_of result (arrived self.new) ≡ played held (arrived self.old) (watched seen) sent earlier }
+        ensures outcome { outcome_of result (arrived self.new)
+            ≡ played held (arrived self.old) (watched seen) sent earlier }
         ensures kept { OnErr result (self.new ≡ self.old) }
-        ensures untaken { IfErr result (λ why. is_untaken_played held (watched seen) sent earlier why ≡ true) }
+        ensures untaken { IfErr result
+            (λ why. is_untaken_played held (watched seen) sent earlier why ≡ true) }
     {
         let at = usize::from(sent.agent.0);
         let own = self.agents[at];
@@ -238,9 +246,11 @@ impl Arrivals {
     fn evict(&mut self, seen: Observer, sent: CacheFlit, earlier: Earlier) -> Result<(), Untaken>
         requires agent { sent.agent.0 < 32 }
         requires timed { self.now.timed < 4294967295 }
-        ensures outcome { outcome_of result (arrived self.new) ≡ ended (issued (arrived self.old) (watched seen) (request_of sent Kind.Evict) Kind.Evict earlier false) sent.agent.0 }
+        ensures outcome { outcome_of result (arrived self.new)
+            ≡ evicted (arrived self.old) (watched seen) sent earlier }
         ensures kept { OnErr result (self.new ≡ self.old) }
-        ensures untaken { IfErr result (λ why. is_untaken_issue (watched seen) (request_of sent Kind.Evict) Kind.Evict earlier why ≡ true) }
+        ensures untaken { IfErr result
+            (λ why. is_untaken_evicted (watched seen) sent earlier why ≡ true) }
     {
         let at = usize::from(sent.agent.0);
         let request = request_of(sent, Kind::Evict);
@@ -272,8 +282,10 @@ impl Arrivals {
     fn answered(&self, before: Observer, sent: CacheFlit) -> Result<Observer, Untaken>
         requires { sent.agent.0 < 32 }
         ensures taken { is_ok result ≡ is_taken (watched before) (Up sent) }
-        ensures after { IfOk result (λ seen. watched seen ≡ answered (arrived self.now) (watch (watched before) (Up sent)) sent) }
-        ensures untaken { IfErr result (λ why. is_fault_of (watched before) (Up sent) why ≡ true) }
+        ensures after { IfOk result
+            (λ seen. watched seen ≡ answered_line (arrived self.now) (watched before) sent) }
+        ensures untaken { IfErr result
+            (λ why. is_fault_of (watched before) (Up sent) why ≡ true) }
     {
         let at = usize::from(sent.agent.0);
         let mut seen = before;
@@ -296,9 +308,11 @@ impl Arrivals {
     ) -> Result<(), Untaken>
         requires agent { request.agent.0 < 32 }
         requires timed { self.now.timed < 4294967295 }
-        ensures outcome { outcome_of result (arrived self.new) ≡ issued (arrived self.old) (watched seen) request kind earlier delayed }
+        ensures outcome { outcome_of result (arrived self.new)
+            ≡ issued (arrived self.old) (watched seen) request kind earlier delayed }
         ensures kept { OnErr result (self.new ≡ self.old) }
-        ensures untaken { IfErr result (λ why. is_untaken_issue (watched seen) request kind earlier why ≡ true) }
+        ensures untaken { IfErr result
+            (λ why. is_untaken_issue (watched seen) request kind earlier why ≡ true) }
     {
         let at = usize::from(request.agent.0);
         let own = self.agents[at];
@@ -322,7 +336,8 @@ impl Arrivals {
         requires { flit.agent.0 < 32 }
         ensures outcome { outcome_of result (arrived self.new) ≡ given (arrived self.old) flit }
         ensures kept { OnErr result (self.new ≡ self.old) }
-        ensures untaken { IfErr result (λ why. is_untaken_given (arrived self.old) flit why ≡ true) }
+        ensures untaken { IfErr result
+            (λ why. is_untaken_given (arrived self.old) flit why ≡ true) }
     {
         let at = usize::from(flit.agent.0);
         let own = self.agents[at];
@@ -343,9 +358,11 @@ impl Arrivals {
     /// Takes a flit of the home that bears on no request that is held.
     fn give_told(&mut self, flit: HomeFlit) -> Result<(), Untaken>
         requires { flit.agent.0 < 32 }
-        ensures outcome { outcome_of result (arrived self.new) ≡ told_given (arrived self.old) flit }
+        ensures outcome { outcome_of result (arrived self.new)
+            ≡ told_given (arrived self.old) flit }
         ensures kept { OnErr result (self.new ≡ self.old) }
-        ensures untaken { IfErr result (λ why. is_untaken_told (arrived self.old) flit why ≡ true) }
+        ensures untaken { IfErr result
+            (λ why. is_untaken_told (arrived self.old) flit why ≡ true) }
     {
         let at = usize::from(flit.agent.0);
         let own = self.agents[at];
@@ -437,8 +454,10 @@ fn issued_on(
 ) -> Result<Observer, Reason>
     requires { request.agent.0 < 32 }
     ensures taken { is_ok result ≡ line_takes (watched seen) request kind earlier }
-    ensures after { IfOk result (λ behind. watched behind ≡ line_issued (watched seen) request kind earlier) }
-    ensures reason { IfErr result (λ reason. is_reason (watched seen) (Up request) reason ≡ true) }
+    ensures after { IfOk result
+        (λ behind. watched behind ≡ line_issued (watched seen) request kind earlier) }
+    ensures reason { IfErr result
+        (λ reason. is_reason (watched seen) (Up request) reason ≡ true) }
 {
     let at = usize::from(request.agent.0);
     let mut behind = seen;
@@ -510,7 +529,7 @@ fn due_acknowledged(due: Due) -> Due
 /// Whether a flit of the home is due, the duty and the words that it has are the home's, and it is no snoop but one that
 /// throws a copy away.
 fn is_known(flit: HomeFlit, agent: AgentSeen, duty: bool, home: &Option<Data>) -> bool
-    ensures { result ≡ (is_due flit.grant agent.due agent.snooped && ((not (needs_duty flit.grant) || duty) && (not (is_plain_snoop flit.grant) && (not (shows_told flit.grant (known_of agent)) || fits home.now flit.shown)))) }
+    ensures { result ≡ is_known_by agent.due agent.snooped (known_of agent) duty home.now flit }
 {
     is_due(flit.grant, agent.due, agent.snooped)
         && (!needs_duty(flit.grant) || duty)
@@ -572,7 +591,8 @@ fn is_none_held(agents: &[Arriving; 32]) -> bool
 /// agent `at`. What was asked for before that request came may have been sent before it was.
 fn surely_shown(seen: &Observer, was: &[bool; 32], agents: &[Arriving; 32], at: usize) -> [bool; 32]
     requires { at < 32 }
-    ensures { (n : ℕ) → shown_of result n ≡ (shown_of seen.now.shown n && is_sure (drifts (agent_of seen.now.agents at)) (shown_of was.now n) (n == at) (arriving_of agents.now n).since (arriving_of agents.now at).asked) }
+    ensures { (n : ℕ) → shown_of result n
+        ≡ surely_shown (watched seen.now) (shown_of was.now) (arriving_of agents.now) at n }
 {
     if !seen.agents[at].drifts() {
         let shown = seen.shown;
@@ -584,7 +604,8 @@ fn surely_shown(seen: &Observer, was: &[bool; 32], agents: &[Arriving; 32], at: 
 /// The same where the agent's copy may have been stored to since.
 fn each_sure(shown: &[bool; 32], was: &[bool; 32], agents: &[Arriving; 32], at: usize) -> [bool; 32]
     requires { at < 32 }
-    ensures { (n : ℕ) → shown_of result n ≡ (shown_of shown.now n && is_sure true (shown_of was.now n) (n == at) (arriving_of agents.now n).since (arriving_of agents.now at).asked) }
+    ensures { (n : ℕ) → shown_of result n
+        ≡ sure_shown true (shown_of shown.now) (shown_of was.now) (arriving_of agents.now) at n }
 {
     let asked = agents[at].asked;
     let mut sure = [false; 32];

@@ -129,7 +129,8 @@ impl Begun {
         ensures taken { is_ok result ≡ takes_begun (begun self.old) flit }
         ensures after { OnOk result (begun self.new ≡ begun_after (begun self.old) flit) }
         ensures kept { OnErr result (self.new ≡ self.old) }
-        ensures reason { IfErr result (λ reason. is_begun_reason (begun self.old) flit reason ≡ true) }
+        ensures reason { IfErr result
+            (λ reason. is_begun_reason (begun self.old) flit reason ≡ true) }
     {
         let at = usize::from(agent_of(flit).0);
         if at >= 32 {
@@ -145,7 +146,8 @@ impl Begun {
         ensures taken { is_ok result ≡ takes_begun (begun self.old) flit }
         ensures after { OnOk result (begun self.new ≡ begun_after (begun self.old) flit) }
         ensures kept { OnErr result (self.new ≡ self.old) }
-        ensures reason { IfErr result (λ reason. is_begun_reason (begun self.old) flit reason ≡ true) }
+        ensures reason { IfErr result
+            (λ reason. is_begun_reason (begun self.old) flit reason ≡ true) }
     {
         if self.agents[at].is_left_over(flit) {
             self.forget_at(at);
@@ -180,7 +182,8 @@ impl Begun {
     /// The observer, told what the agent may be that the flit is of or to.
     fn supposed(&self, flit: Flit, at: usize) -> Observer
         requires { at < 32 }
-        ensures { watched result ≡ supposed_at at (mark_of self.now.agents at) flit (watched self.now.observer) }
+        ensures { watched result
+            ≡ supposed_at at (mark_of self.now.agents at) flit (watched self.now.observer) }
     {
         let mark = self.agents[at];
         let seen = self.observer.agents[at];
@@ -206,7 +209,8 @@ impl Begun {
         ensures taken { is_ok result ≡ is_taken (supposed_in at (begun self.old) flit) flit }
         ensures after { OnOk result (begun self.new ≡ kept_in at (begun self.old) flit) }
         ensures kept { OnErr result (self.new ≡ self.old) }
-        ensures reason { IfErr result (λ reason. is_reason (supposed_in at (begun self.old) flit) flit reason ≡ true) }
+        ensures reason { IfErr result
+            (λ reason. is_reason (supposed_in at (begun self.old) flit) flit reason ≡ true) }
     {
         let mut next = self.supposed(flit, at);
         next.take(flit)?;

@@ -78,7 +78,7 @@ pub enum Act {
     NonCopyBackWrData,
     /// A load of its processor, of this word.
     Load(Word),
-    /// A store of its processor, to this word: of what it writes nothing is judged.
+    /// A store of its processor, to this word. An observer judges what it writes where all stores are listed alone.
     Store(Word),
 }
 

@@ -1,6 +1,8 @@
 //! Laws of the rules.
 
 ghost use Rattle.chi_observer.specs.Runs.{LegalIsAccepted, AcceptedIsLegal, AcceptedIsExact, AcceptedIsCoherent, ReadOnceShowsValue};
+ghost use Rattle.chi_observer.specs.ListedLaws.{ListedFlitsAreTaken, ListedFlitsLead, ListedHomeFlitsLead};
+ghost use Rattle.chi_observer.specs.ListedRuns.{LegalWordsAreAccepted, AcceptedWordsAreLegal, AcceptedWordsAreExact, AcceptedWordsAreCoherent};
 ghost use Rattle.chi_observer.specs.Laws.{MeaningIsCoherent, MeaningIsClosed, CacheFlitsAreTaken, CacheFlitsArePossible, CacheFlitsLead, CacheFlitsKeepSound, MeaningComes, HomeFlitsKeepSound, HomeFlitsAreSafe, HomeFlitsLead, HomeFlitsArePossible, SafeFlitsAreTaken, MeaningComesByHome};
 
 /// The law that each world that the observer's state stands for is coherent, and hidden steps lead to none that it
@@ -44,4 +46,24 @@ pub fn traces()
     ensures exact { AcceptedIsExact }
     ensures coherent { AcceptedIsCoherent }
     ensures values { ReadOnceShowsValue }
+{}
+
+/// The law that, where all stores are listed, a flit of a cache that some world sends word by word is taken, and that it and
+/// one of the home lead to worlds that the known words behind it stand for too.
+/// Source: `docs/OBSERVER.md`, "What is proved".
+pub fn listed_flits()
+    ensures taken { ListedFlitsAreTaken }
+    ensures leads { ListedFlitsLead }
+    ensures given { ListedHomeFlitsLead }
+{}
+
+/// The law of traces whose stores are all listed, word by word: one is accepted exactly where it is legal; the worlds behind
+/// an accepted one, in which each load had its word and each store made its own, are those that the observer's state and
+/// the words that it knows stand for; and all of them are coherent.
+/// Source: `docs/OBSERVER.md`, "What is proved".
+pub fn listed_traces()
+    ensures accepted { LegalWordsAreAccepted }
+    ensures legal { AcceptedWordsAreLegal }
+    ensures exact { AcceptedWordsAreExact }
+    ensures coherent { AcceptedWordsAreCoherent }
 {}

@@ -28,7 +28,8 @@ pub(crate) fn shown_behind(
     shown: &[bool; 32],
     flit: Flit,
 ) -> [bool; 32]
-    ensures { (n : ℕ) → shown_of result n ≡ (waits && shown_here stores agents.now current flit (shown_of shown.now n) n) }
+    ensures { (n : ℕ) → shown_of result n
+        ≡ (waits && shown_here stores agents.now current flit (shown_of shown.now n) n) }
 {
     if !waits {
         return [false; 32];
@@ -44,7 +45,8 @@ fn each_shown(
     shown: &[bool; 32],
     flit: Flit,
 ) -> [bool; 32]
-    ensures { (n : ℕ) → shown_of result n ≡ shown_here stores agents.now current flit (shown_of shown.now n) n }
+    ensures { (n : ℕ) → shown_of result n
+        ≡ shown_here stores agents.now current flit (shown_of shown.now n) n }
 {
     let mut behind = [false; 32];
     for n in 0..32 {

@@ -134,7 +134,8 @@ impl Observer {
         ensures taken { is_ok result ≡ takes_flit (watched self.old) flit }
         ensures after { OnOk result (watched self.new ≡ watch (watched self.old) flit) }
         ensures kept { OnErr result (self.new ≡ self.old) }
-        ensures reason { IfErr result (λ reason. is_judged_reason (watched self.old) flit reason ≡ true) }
+        ensures reason { IfErr result
+            (λ reason. is_judged_reason (watched self.old) flit reason ≡ true) }
     {
         self.take_told(flit)?;
         self.waits = waits_behind(&self.agents, self.waits, flit);
@@ -158,7 +159,8 @@ impl Observer {
         ensures shown { self.new.shown ≡ self.old.shown }
         ensures waits { self.new.waits ≡ self.old.waits }
         ensures kept { OnErr result (self.new ≡ self.old) }
-        ensures reason { IfErr result (λ reason. is_judged_reason (watched self.old) flit reason ≡ true) }
+        ensures reason { IfErr result
+            (λ reason. is_judged_reason (watched self.old) flit reason ≡ true) }
     {
         match flit {
             Flit::Up(sent) => {
@@ -197,7 +199,8 @@ impl Observer {
         ensures shown { self.new.shown ≡ self.old.shown }
         ensures waits { self.new.waits ≡ self.old.waits }
         ensures kept { OnErr result (self.new ≡ self.old) }
-        ensures reason { IfErr result (λ reason. is_sent_reason (observed self.old) flit reason ≡ true) }
+        ensures reason { IfErr result
+            (λ reason. is_sent_reason (observed self.old) flit reason ≡ true) }
     {
         let at = usize::from(flit.agent.0);
         let agent = self.agents[at];
@@ -227,7 +230,8 @@ impl Observer {
     fn may_give(&self, flit: HomeFlit) -> Result<(), Reason>
         requires { flit.agent.0 < 32 }
         ensures may { is_ok result ≡ home_may (observed self.now).public flit }
-        ensures reason { IfErr result (λ reason. is_given_reason (observed self.now) flit reason ≡ true) }
+        ensures reason { IfErr result
+            (λ reason. is_given_reason (observed self.now) flit reason ≡ true) }
     {
         let agent = self.agents[usize::from(flit.agent.0)];
         if !is_due(flit.grant, agent.due, agent.snooped) {
@@ -254,7 +258,8 @@ impl Observer {
         ensures shown { self.new.shown ≡ self.old.shown }
         ensures waits { self.new.waits ≡ self.old.waits }
         ensures kept { OnErr result (self.new ≡ self.old) }
-        ensures reason { IfErr result (λ reason. is_given_reason (observed self.old) flit reason ≡ true) }
+        ensures reason { IfErr result
+            (λ reason. is_given_reason (observed self.old) flit reason ≡ true) }
     {
         let at = usize::from(flit.agent.0);
         let agent = self.agents[at];
@@ -282,8 +287,9 @@ impl Observer {
 
 impl AgentSeen {
     /// Whether some copy that the agent may have sends the flit now.
-    fn sends(self, stores: Stores, act: Act) -> bool
-        ensures { result ≡ (allows act self.snooped && fits_told stores act (lets_go self.snooped) self.due (known_of self)) }
+    pub(crate) fn sends(self, stores: Stores, act: Act) -> bool
+        ensures { result ≡ (allows act self.snooped
+            && fits_told stores act (lets_go self.snooped) self.due (known_of self)) }
     {
         allows(act, self.snooped) && self.may_send(stores, act, lets_go(self.snooped))
     }
@@ -454,7 +460,8 @@ fn words_stand(
     any: bool,
     read: bool,
 ) -> bool
-    ensures { result ≡ ((not shows || (renewed || (not current || known))) && (any || (not current || read))) }
+    ensures { result ≡ ((not shows || (renewed || (not current || known)))
+        && (any || (not current || read))) }
 {
     (!shows || (renewed || (!current || known))) && (any || (!current || read))
 }

@@ -65,7 +65,8 @@ pub(crate) fn allows(act: Act, snooped: Option<Snoop>) -> bool
 
 /// Whether a snoop lets it be answered so.
 fn lets(snoop: Snoop, answer: Answer) -> bool
-    ensures { result ≡ (leaves snoop (left_by answer) && (not (lets_go (Some snoop)) || answer_drops answer)) }
+    ensures { result ≡ (leaves snoop (left_by answer)
+        && (not (lets_go (Some snoop)) || answer_drops answer)) }
 {
     leaves(snoop, left_by(answer)) && (!matches!(snoop, Snoop::SnpMakeInvalid) || drops(answer))
 }

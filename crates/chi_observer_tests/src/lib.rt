@@ -21,3 +21,5 @@ mod tails;
 mod thrown;
 #[cfg(test)]
 mod traces;
+#[cfg(test)]
+mod words;

@@ -1,0 +1,164 @@
+-- A flit of a cache, word by word: it is taken where a world sends it, and leads to what is meant.
+use Rattle.std.proofs.Common.{◌≡◌, ◌≢◌, ℕ, ◌<◌, List, refl, sym, ap, subst, ◌∙◌}
+use Rattle.std.specs.Prelude.{Bool, true, false, ◌==◌, ◌&&◌, ◌||◌, not, Option, Some, None, nat_lt, if◌then◌else◌}
+use Rattle.std.proofs.lemmas.Bool.{eqb-true, ltb-true, or_from, or_parts}
+use Rattle.chi_observer.specs.declared.flits.Due.{Due}
+use Rattle.chi_observer.specs.declared.flits.Stores.{Stores}
+use Rattle.chi_observer.specs.declared.flits.Stores.TheVariants.{Hidden, Listed as AllListed}
+use Rattle.chi_observer.specs.declared.flits.Word.{Word}
+use Rattle.chi_observer.specs.declared.flits.Act.{Act}
+use Rattle.chi_observer.specs.declared.flits.Act.TheVariants.{Load, Store}
+use Rattle.chi_observer.specs.declared.flits.CacheFlit.{CacheFlit}
+use Rattle.chi_observer.specs.Copies.{Copy, Held, holds_data, is_unique}
+use Rattle.chi_observer.specs.Rules.{acts, has_data, has_word, leaves_any, lets_go, looks, may_store, reads_any, stores, tells_words, throws, word_at, writes}
+use Rattle.chi_observer.specs.Tables.{Known, reach, renews}
+use Rattle.chi_observer.specs.Worlds.{World, put}
+use Rattle.chi_observer.specs.Observed.{Observed, Sound, next}
+use Rattle.chi_observer.specs.ListedLaws.{ListedFlitsAreTaken, ListedFlitsLead}
+use Rattle.chi_observer.specs.Listed.{Listed, MeaningWords, SendsWord, Words, agree, all_words, fits_known, fits_load, has_stored, is_placed, known_words, may_be_empty, next_listed, no_words, takes_listed, words_by}
+use Rattle.chi_observer.proofs.Finite.{no, left, right, both, implies, follow}
+use Rattle.chi_observer.proofs.Spots.{all_due_copies, each_due_copy, if_some}
+use Rattle.chi_observer.proofs.Facts.{and_false, flip, load_holds_data, or_here, or_there, other_of, sent_data}
+use Rattle.chi_observer.proofs.Words.{any_word}
+use Rattle.chi_observer.proofs.Copies.{each_below}
+use Rattle.chi_observer.proofs.Put.{here, split, there, unlike}
+use Rattle.chi_observer.proofs.Cache.{leads, taken}
+use Rattle.chi_observer.proofs.ListedWords.{agree_at, agree_by, all_unstored, fits_word_of, same_back}
+
+where_so : (a b : Bool) → (a ≡ true → b ≡ true) → (not a || b) ≡ true
+where_so true b h = h refl
+where_so false b h = refl
+
+-- words of which one is told, and the others are as known
+put_agrees : (p v : ℕ) (k : Words) (u : List ℕ) → (word_at u p == v) ≡ true → ((q : ℕ) → q ≢ p → q < 8 → fits_known (k q) (word_at u q) ≡ true) → agree (put p (Some v) k) u ≡ true
+put_agrees p v k u h rest = agree_by (put p (Some v) k) u (split (λ q. q < 8 → fits_known (put p (Some v) k q) (word_at u q) ≡ true) p
+    (λ _. subst (λ x. fits_known x (word_at u p) ≡ true) (sym (here p (Some v) k)) (same_back (word_at u p) v h))
+    (λ q d lq. subst (λ x. fits_known x (word_at u q) ≡ true) (sym (there p (Some v) k q d)) (rest q d lq)))
+
+fits_if : (b : Bool) (v : ℕ) → fits_known (if b then Some v else None) v ≡ true
+fits_if true v = fits_word_of (Some v)
+fits_if false v = refl
+
+-- the home's words, where they are known
+pub home_agrees : (h : Option (List ℕ)) (u : List ℕ) → ((v : List ℕ) → h ≡ Some v → u ≡ v) → agree (all_words h) u ≡ true
+home_agrees None u e = refl
+home_agrees (Some v) u e = subst (λ x. agree (all_words (Some v)) x ≡ true) (sym (e v refl)) (agree_by (all_words (Some v)) v (λ p _. fits_if (nat_lt p 8) (word_at v p)))
+
+known_by : (l : Listed) (w : World) → l.seen.public.stores ≡ AllListed → MeaningWords l w → (c : Bool) → l.seen.current ≡ c → agree (if c then all_words l.seen.home else l.words) w.last ≡ true
+known_by l w listed m true c = home_agrees l.seen.home w.last (λ v h. m.seen.current c (all_unstored l.seen w listed) ∙ m.seen.home v h)
+known_by l w listed m false c = m.words c
+
+-- the words that are known anyway are the value's
+pub known_agrees : (l : Listed) (w : World) → l.seen.public.stores ≡ AllListed → MeaningWords l w → agree (known_words l) w.last ≡ true
+known_agrees l w listed m = known_by l w listed m l.seen.current refl
+
+unrenewed : (a : Act) (x : Bool) (d : Due) (k : Known) → stores a ≡ false → renews AllListed a x d k ≡ false
+unrenewed (Store word) x d k h = no (sym h)
+unrenewed other x d k h = refl
+
+-- nothing is lost where all stores are listed
+pub never_any : (z : Stores) (a : Act) (x : Bool) (d : Due) (s : Copy) → z ≡ AllListed → stores a ≡ false → leaves_any z a x d s ≡ false
+never_any z a x d s h q = ap (λ (z : Stores). leaves_any z a x d s) h ∙ or_from _ _ (and_false (throws a x) false refl) q
+
+store_unique : (a : Act) (x : Bool) (d : Due) (s s' : Held) → stores a ≡ true → acts a x d s ≡ Some s' → is_unique s.copy ≡ true
+store_unique (Store word) x d s s' h e = right (may_store d s) _ (if_some (may_store d s && is_unique s.copy) _ s' e)
+store_unique other x d s s' h e = no h
+
+-- a unique copy that isn't told to be maybe without data has them
+full_table : Stores → Due → Known → Held → Bool
+full_table mode d t s = implies (reach mode d t s && (is_unique s.copy && not (may_be_empty t.told))) (holds_data s.copy)
+
+full_holds : (mode : Stores) → all_due_copies (full_table mode) ≡ true
+unfolding full_table
+full_holds Hidden = refl
+full_holds AllListed = refl
+
+pub full_copy : (mode : Stores) (d : Due) (t : Known) (s : Held) → reach mode d t s ≡ true → is_unique s.copy ≡ true → may_be_empty t.told ≡ false → holds_data s.copy ≡ true
+unfolding full_table
+full_copy mode d t s r u e = follow _ _ (each_due_copy (full_table mode) (full_holds mode) d t s) (both _ _ r (both _ _ u (flip _ e)))
+
+-- u: the value before, v: behind it; a store tells its word, and the others where the copy had data
+kept_else : (word : Word) (u v : List ℕ) → has_stored (Store word) true u v ≡ true → (q : ℕ) → q ≢ word.place.0 → q < 8 → (word_at v q == word_at u q) ≡ true
+kept_else word u v h q d lq = other_of (q == word.place.0) _ (each_below 8 (λ p. p == word.place.0 || (word_at v p == word_at u p)) (right (word_at v word.place.0 == word.value) _ h) q lq) (unlike q word.place.0 d)
+
+stored_agrees : (word : Word) (empty had : Bool) (k : Words) (u v : List ℕ) → has_stored (Store word) had u v ≡ true → (empty ≡ false → had ≡ true) → agree k u ≡ true → agree (put word.place.0 (Some word.value) (if empty then no_words else k)) v ≡ true
+stored_agrees word true had k u v h full a = put_agrees word.place.0 word.value no_words v (left _ _ h) (λ q d lq. refl)
+stored_agrees word false had k u v h full a =
+    put_agrees word.place.0 word.value k v (left _ _ h) (λ q d lq. subst (λ x. fits_known (k q) x ≡ true)
+    (sym (eqb-true (word_at v q) (word_at u q) (kept_else word u v (subst (λ x. has_stored (Store word) x u v ≡ true) (full refl) h) q d lq))) (agree_at k u a q lq))
+
+after_agrees : (a : Act) (empty had : Bool) (k l : Words) (u v : List ℕ) → has_stored a had u v ≡ true → has_word a u ≡ true → (stores a ≡ true → empty ≡ false → had ≡ true) → agree k u ≡ true → (stores a ≡ false → (v ≡ u) × (agree l u ≡ true)) → agree (words_by a empty k l) v ≡ true
+after_agrees (Store word) empty had k l u v h e full a same = stored_agrees word empty had k u v h (full refl) a
+after_agrees (Load word) empty had k l u v h e full a same = subst (λ x. agree (put word.place.0 (Some word.value) l) x ≡ true) (sym (same refl).0) (put_agrees word.place.0 word.value l u e (λ q d lq. agree_at l u (same refl).1 q lq))
+after_agrees other empty had k l u v h e full a same = subst (λ x. agree l x ≡ true) (sym (same refl).0) (same refl).1
+
+-- what is loaded is as known
+load_known : (a : Act) (k : Words) (u : List ℕ) → is_placed a ≡ true → agree k u ≡ true → has_word a u ≡ true → fits_load a k ≡ true
+load_known (Load word) k u p g h = subst (λ v. fits_known (k word.place.0) v ≡ true) (eqb-true (word_at u word.place.0) word.value h) (agree_at k u g word.place.0 (ltb-true word.place.0 8 p))
+load_known other k u p g h = refl
+
+current_before : (t r c : Bool) → r ≡ false → (if t then true else (if r then false else c)) ≡ false → (t ≡ false) × (c ≡ false)
+current_before true r c e h = no (sym h)
+current_before false true c e h = no (sym e)
+current_before false false c e h = (refl, h)
+
+module _ (l : Listed) (f : CacheFlit) (w w' : World) (listed : l.seen.public.stores ≡ AllListed) (sound : Sound l.seen) (low : f.agent.0 < 32) (m : MeaningWords l w) (send : SendsWord l.seen.public f w w') where
+  abbrev o : Observed
+  o = l.seen
+
+  abbrev n : ℕ
+  n = f.agent.0
+
+  abbrev d : Due
+  d = o.public.due n
+
+  abbrev t : Known
+  t = o.told n
+
+  abbrev s : Held
+  s = w.state n
+
+  abbrev x : Bool
+  x = lets_go (o.public.snooped n)
+
+  shown_last : has_data f.act ≡ true → f.shown ≡ w.last
+  shown_last h = send.sends.shown h ∙ m.seen.words n low (sent_data f.act x d s (w'.state n) send.sends.act h)
+
+  loaded_by : (b : Bool) → looks f.act ≡ b → has_word f.act w.last ≡ true
+  loaded_by true e = subst (λ (u : List ℕ). has_word f.act u ≡ true) (m.seen.words n low (load_holds_data f.act x d s (w'.state n) e send.sends.act)) send.loaded
+  loaded_by false e = any_word f.act w.last e
+
+  loaded_last : has_word f.act w.last ≡ true
+  loaded_last = loaded_by (looks f.act) refl
+
+  fits_by : (c : Bool) → o.current ≡ c → (o.current || ((not (has_data f.act) || agree l.words f.shown) && fits_load f.act l.words)) ≡ true
+  fits_by true c = or_here o.current _ c
+  fits_by false c = or_there o.current _ (both _ _ (where_so (has_data f.act) _ (λ h. subst (λ (u : List ℕ). agree l.words u ≡ true) (sym (shown_last h)) (m.words c)))
+      (load_known f.act l.words w.last send.placed (m.words c) loaded_last))
+
+  pub taken_words : takes_listed l f ≡ true
+  taken_words = both _ _ (taken o f w w' sound low m.seen send.sends (or_there (reads_any o.public.stores d s.copy) _ send.loaded)) (both _ _ send.placed (fits_by o.current refl))
+
+  steady : stores f.act ≡ false → renews o.public.stores f.act x d t ≡ false
+  steady e = subst (λ z. renews z f.act x d t ≡ false) (sym listed) (unrenewed f.act x d t e)
+
+  unchanged : stores f.act ≡ false → tells_words f.act ≡ false → w'.last ≡ w.last
+  unchanged e h = send.sends.last (never_any o.public.stores f.act x d s.copy listed e) ∙ ap (λ b. if b then f.shown else w.last) (or_parts (has_data f.act) (writes f.act) h).1
+
+  had_data : stores f.act ≡ true → may_be_empty t.told ≡ false → holds_data s.copy ≡ true
+  had_data e h = full_copy o.public.stores d t s (m.seen.told n low) (store_unique f.act x d s (w'.state n) e send.sends.act) h
+
+  words_same : (next o f).current ≡ false → stores f.act ≡ false → (w'.last ≡ w.last) × (agree l.words w.last ≡ true)
+  words_same c e = let before = current_before (tells_words f.act) (renews o.public.stores f.act x d t) o.current (steady e) c in (unchanged e before.0, m.words before.1)
+
+  pub led_words : MeaningWords (next_listed l f) w'
+  led_words = record {
+    seen = leads o f w w' sound low m.seen send.sends;
+    words = λ c. after_agrees f.act (may_be_empty t.told) (holds_data s.copy) (known_words l) l.words w.last w'.last send.stored loaded_last had_data (known_agrees l w listed m) (words_same c);
+  }
+
+pub words_taken : ListedFlitsAreTaken
+words_taken l f w w' listed sound low m send = taken_words l f w w' listed sound low m send
+
+pub words_lead : ListedFlitsLead
+words_lead l f w w' listed sound low m send = led_words l f w w' listed sound low m send
