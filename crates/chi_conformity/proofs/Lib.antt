@@ -20,4 +20,6 @@ mod Answering
 mod Completions
 mod Snoops
 mod Steps
+mod Words
+mod StepWords
 mod Runs

@@ -185,7 +185,7 @@ comp_follows laws w s last agent (Some CompI) low kept stands is here = evict_ar
 comp_follows laws w s last agent other low kept stands is here = no here
 
 -- EACH STEP
-load_valid : (s : LineState) (n : ℕ) → load_refusal (rn_of s n) ≡ None → is_valid (rn_of s n).state ≡ true
+pub load_valid : (s : LineState) (n : ℕ) → load_refusal (rn_of s n) ≡ None → is_valid (rn_of s n).state ≡ true
 load_valid s n allowed = grind (arith, allowed)
 
 pub step_follows : Laws → (c : Conditions) (last : List ℕ) (s : LineState) (agent : Agent) (line : Line) (step : Step) (w : Watched) → agent.0 < 8

@@ -10,7 +10,7 @@ use Rattle.chi_observer.specs.declared.flits.Grant.TheVariants.{Snp}
 use Rattle.chi_observer.specs.declared.flits.Flit.{Flit}
 use Rattle.chi_observer.specs.Judged.{judges_act, judges_grant}
 use Rattle.chi_observer.specs.Lines.{Watched, is_taken, watch}
-use Rattle.chi_conformity.specs.Conformity.{AreTaken}
+use Rattle.chi_conformity.specs.Conformity.{AreTakenBy}
 use Rattle.chi_conformity.specs.Seen.{down, up}
 use Rattle.chi_conformity.proofs.Held.{Stands}
 use Rattle.chi_conformity.proofs.Acted.{Sent}
@@ -18,9 +18,12 @@ use Rattle.chi_conformity.proofs.Grants.{Given}
 use Rattle.chi_conformity.proofs.Told.{both}
 
 -- each is taken, and all stands behind the last
+abbrev pub FollowsBy : {W : Type 0} → (W → Flit → Bool) → (W → Flit → W) → (W → Type 0) → W → List Flit → Type 0
+FollowsBy takes behind Stand w [] = Stand w
+FollowsBy takes behind Stand w (flit ∷ flits) = (takes w flit ≡ true) × FollowsBy takes behind Stand (behind w flit) flits
+
 abbrev pub Follows : List ℕ → LineState → Watched → List Flit → Type 0
-Follows last s w [] = Stands last s w.seen
-Follows last s w (flit ∷ flits) = (is_taken w flit ≡ true) × Follows last s (watch w flit) flits
+Follows last s w flits = FollowsBy is_taken watch (λ (v : Watched). Stands last s v.seen) w flits
 
 judged_act : (act : Act) → judges_act act ≡ true
 judged_act (Request kind) = refl
@@ -48,7 +51,7 @@ down_taken w s last agent grant shown low given =
     (both _ _ (judged_grant grant) (both _ _ (is_low agent.0 low) (both _ _ (or_left _ _ (ap not given.1)) given.0)), given.2)
 
 -- a run goes on behind what it took
-pub taken_more : (last : List ℕ) (s : LineState) (w : Watched) (flits more : List Flit) → Follows last s w flits
-    → ((w' : Watched) → Stands last s w'.seen → AreTaken w' more) → AreTaken w (flits ++ more)
-taken_more last s w [] more follows goes = goes w follows
-taken_more last s w (flit ∷ flits) more follows goes = (follows.0, taken_more last s (watch w flit) flits more follows.1 goes)
+pub taken_more : {W : Type 0} (takes : W → Flit → Bool) (behind : W → Flit → W) (Stand : W → Type 0) (w : W) (flits more : List Flit) → FollowsBy takes behind Stand w flits
+    → ((w' : W) → Stand w' → AreTakenBy takes behind w' more) → AreTakenBy takes behind w (flits ++ more)
+taken_more takes behind Stand w [] more follows goes = goes w follows
+taken_more takes behind Stand w (flit ∷ flits) more follows goes = (follows.0, taken_more takes behind Stand (behind w flit) flits more follows.1 goes)

@@ -1,14 +1,16 @@
 //! A law of the slice and the observer.
 
-ghost use Rattle.chi_conformity.specs.Conformity.{SlicesConform};
+ghost use Rattle.chi_conformity.specs.Conformity.{SlicesConform, SlicesConformByWord};
 
 use chi_observer::{cache_flits, home_flits, meaning};
 
 /// The law that an observer of a line takes each flit that the actions of a slice send there, in the order in which they
-/// are sent, and each load and store there, whatever the actions are.
+/// are sent, and each load and store there, whatever the actions are; and that one of listed stores, which keeps the words
+/// that loads and stores tell, takes all of it too.
 /// Source: `docs/OBSERVER.md`, "What is proved".
 pub fn a_slice_conforms()
-    ensures { SlicesConform }
+    ensures taken { SlicesConform }
+    ensures listed { SlicesConformByWord }
 {
     meaning();
     cache_flits();

@@ -1,12 +1,15 @@
-use Rattle.chi_conformity.proofs.Runs.{conform}
+use Rattle.chi_conformity.proofs.Flits.{Laws}
+use Rattle.chi_conformity.proofs.Runs.{conform, conform_by_word}
 use Rattle.chi_conformity.proofs.laws.a_slice_conforms.Goals as goal
 
 pub returns : goal.returns
-returns c = conform (record {
-  closed = c.meaning.ensures.closed;
-  taken = c.cache_flits.ensures.taken;
-  leads = c.cache_flits.ensures.leads;
-  kept = c.cache_flits.ensures.sound;
-  home_kept = c.home_flits.ensures.sound;
-  home_leads = c.home_flits.ensures.leads;
-})
+returns c =
+    let laws : Laws = record {
+      closed = c.meaning.ensures.closed;
+      taken = c.cache_flits.ensures.taken;
+      leads = c.cache_flits.ensures.leads;
+      kept = c.cache_flits.ensures.sound;
+      home_kept = c.home_flits.ensures.sound;
+      home_leads = c.home_flits.ensures.leads;
+    } in
+    record { taken = conform laws; listed = conform_by_word laws }
