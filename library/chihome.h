@@ -645,7 +645,7 @@ typedef struct {
     uint64_t line;        /* the address of the first byte of its line of memory, where has_line is 1 */
     uint64_t since;       /* the number of the flit that has told what the reason rests on, 0 where none has: it opened the
                              id (1 to 11), was the line's first (12), told the copy of `told`, or the words (21) */
-    uint64_t expected[8]; /* of CHI_Fault_OtherWords: the words that are known; else 0 */
+    uint64_t expected[8]; /* of CHI_Fault_OtherWords: the words that are known, the flit's where they aren't; else 0 */
     uint16_t node;        /* the requester that the flit is of or to */
     uint16_t home;        /* the other node of the flit */
     uint16_t other;       /* where has_other is 1: of CHI_Fault_OtherHome the line's home, of CHI_Fault_OtherCopy the first

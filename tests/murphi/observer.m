@@ -55,6 +55,7 @@ var
   home: value;
   known: knowledge;  -- the home's words, where flits have shown them
   current: boolean;
+  stored: knowledge; -- where all stores are listed: the word of the value last stored, while it isn't the home's
   duty: boolean;
   thrown: boolean;
 
@@ -278,6 +279,16 @@ end;
 function fits(v: value): boolean;
 begin return known = unknown | known = v; end;
 
+function fits_stored(v: value): boolean;
+begin return current | stored = unknown | stored = v; end;
+
+-- The word of a load: any where a store may have been that nobody saw, if only behind a CompAck.
+function may_load(n: agent; v: value): boolean;
+begin
+  return (hidden & is_unique(strongest(lanes[n].told)) & (may_be_free(lanes[n].due) | lanes[n].due = Acknowledgement))
+    | ((!current | fits(v)) & fits_stored(v));
+end;
+
 function may_be_stored(m: agent; tells: boolean): boolean;
 begin return hidden & !tells & may_be_free(lanes[m].due) & is_unique(strongest(lanes[m].told)); end;
 
@@ -337,6 +348,7 @@ procedure show(v: value);
 begin
   known := v;
   current := true;
+  stored := unknown;
   thrown := false;
 end;
 
@@ -417,7 +429,7 @@ ruleset n: agent; a: answer; v: value do
     throws := lanes[n].snooped = SnpMakeInvalid;
     renewed := hidden & may_be_free(lanes[n].due) & is_unique(strongest(lanes[n].told)) & (tells_dirty(a) | throws);
     others := shows(a) & current & !fits(lanes[n].word);
-    assert "an answer is taken" may_give(a, n) & (!others | renewed);
+    assert "an answer is taken" may_give(a, n) & (!others | renewed) & (!shows(a) | fits_stored(lanes[n].word));
     if hidden & lanes[n].due = Resending & tells_dirty(a) & is_unique(strongest(lanes[n].told))
         & (others | lanes[n].told != ToldUD) then
       lanes[n].surely := true;
@@ -460,7 +472,7 @@ ruleset n: agent; form: copy do
       exists c: copy do
         may_be(lanes[n].told, c) & (c = form | (form = I & !is_dirty(c)))
       end
-      & (form = I | !current | fits(lanes[n].word));
+      & (form = I | ((!current | fits(lanes[n].word)) & fits_stored(lanes[n].word)));
     then_left := I;
     if lanes[n].kind = WriteCleanFull then
       switch form
@@ -504,7 +516,9 @@ ruleset n: agent do
   ==>
   begin
     assert "a load is taken"
-      has_data(strongest(lanes[n].told)) | (hidden & may_be_free(lanes[n].due) & is_unique(strongest(lanes[n].told)));
+      (has_data(strongest(lanes[n].told)) | (hidden & may_be_free(lanes[n].due) & is_unique(strongest(lanes[n].told))))
+      & may_load(n, lanes[n].word);
+    if !hidden & !current then stored := lanes[n].word; end;
     if strongest(lanes[n].told) = UCE then
       current := false;
       if lanes[n].due = Resending then lanes[n].surely := true; end;
@@ -526,6 +540,7 @@ ruleset n: agent; v: value do
     hold(n, UD, v);
     last := v;
     current := false;
+    if !hidden then stored := v; end;
     lanes[n].surely := lanes[n].due = Resending;
     lanes[n].told := ToldUD;
     follow(n, true, false);
@@ -669,6 +684,7 @@ ruleset n: agent do
     hold(n, I, 0);
     last := home;
     current := true;
+    stored := unknown;
     thrown := false;
     await(n, Nothing, NoKind);
     follow(n, true, false);
@@ -697,6 +713,7 @@ ruleset n: agent; v: value do
     hold(n, UD, v);
     last := v;
     current := false;
+    stored := unknown;
     thrown := false;
     await(n, Acknowledgement, NoKind);
     follow(n, true, false);
@@ -725,6 +742,7 @@ ruleset v: value do
     home := v;
     known := unknown;
     current := true;
+    stored := unknown;
     duty := false;
     thrown := false;
   end;
@@ -752,6 +770,9 @@ invariant "told"
 
 invariant "the home's words"
   known = unknown | known = home;
+
+invariant "the word that was stored or loaded"
+  stored = unknown | stored = last;
 
 invariant "the value is the home's, but for stores that nobody saw"
   current

@@ -5,9 +5,13 @@ what was so at some moment since an open ReadOnce or CleanShared was sent (docs/
 cache is legal where some world lets its cache send it. A flit of the home is legal where, for some value of the home's
 own copy, it is safe in every world with that value. Nothing of what the observer keeps stands here.
 
-A flit is a tuple: ("cache" or "home", the agent, what it does, and with which words). A load is a flit of a
-cache with the value that its word is of: legal where some copy has it, and nothing more is learnt of it. A store is one
-without. Of a line whose stores are all listed no hidden step is a store.
+A flit is a tuple: ("cache" or "home", the agent, what it does, and with which words). A load and a store are flits of a
+cache with a place in the line and a word. Where stores may be hidden each place has another word in each value: a load is
+legal where some copy has its word, and nothing more is learnt of it, nor of what a store writes. Where all stores are
+listed no hidden step is a store, and a value is made of its words, two for each place. A load leaves the worlds whose copy
+has its word; a store makes its word, and keeps those of the other places where the copy has data. Besides these a value has
+a part of two that no load and no store names, of which flits show the first alone: behind a store it is any, so only data
+show that the home has the value.
 """
 
 from collections import defaultdict
@@ -101,15 +105,19 @@ class Line:
     """The worlds of a line, with what everybody has seen: its unanswered snoops, and the home's duty."""
 
     def __init__(self, agents, values, listed):
-        self.agents, self.values, self.listed = agents, values, listed
+        """`values`: those that flits show; where all stores are listed `listed` places have two words each."""
+        self.agents, self.listed = agents, listed
+        self.places = listed or 8
+        self.values = 2 ** listed if listed else values
+        self.all_values = range(2 * self.values if listed else values)
         self.snoops, self.duty = (None,) * agents, False
-        opening = (World(("I",) * agents, value, value, (None,) * agents, False, (0,) * agents) for value in range(values))
+        opening = (World(("I",) * agents, value, value, (None,) * agents, False, (0,) * agents) for value in range(self.values))
         self.worlds = self.closed(map(noticed, opening))
 
     def closed(self, worlds):
         """These worlds, and those that hidden steps make of them."""
         found = set(worlds)
-        stored = () if self.listed else range(self.values)
+        stored = () if self.listed else self.all_values
         left = list(found)
         while left:
             world = left.pop()
@@ -164,22 +172,33 @@ class Line:
         left = {"UD": "UC", "SD": "SC"}.get(copy, copy) if request.kind == "WriteCleanFull" else "I"
         return done._replace(copies=put(world.copies, agent, left), home=value) if value == world.last else None
 
-    # -- loads, of whatever value, and stores, whatever their words: of a store a world for each
+    # -- loads and stores: of a store a world for each value that it may make
 
-    def load(self, world, agent, _value):
-        return world if world.copies[agent] in ("SC", "SD", "UC", "UD") else None
+    def word_at(self, value, place):
+        return value >> place & 1 if self.listed else value
 
-    def reads(self, world, agent, value):
-        """Whether the copy has the value, or may have any: where a hidden store may be done, if only behind a CompAck."""
+    def load(self, world, agent, place, word):
+        has_word = not self.listed or self.word_at(world.last, place) == word
+        return world if world.copies[agent] in ("SC", "SD", "UC", "UD") and has_word else None
+
+    def reads(self, world, agent, place, word):
+        """Whether the copy has the word, or may have any: where a hidden store may be done, if only behind a CompAck."""
         request = world.requests[agent]
         open_to_stores = world.copies[agent] in ("UC", "UD") and (not request or request.phase == "ack")
-        return world.last == value or (open_to_stores and not self.listed)
+        return self.word_at(world.last, place) == word or (open_to_stores and not self.listed)
 
-    def store(self, world, agent):
-        request = world.requests[agent]
-        if world.copies[agent] not in ("UC", "UD", "UCE") or (request and request.phase != "ack"):
+    def store(self, world, agent, place, word):
+        request, copy = world.requests[agent], world.copies[agent]
+        if copy not in ("UC", "UD", "UCE") or (request and request.phase != "ack"):
             return None
-        return [world._replace(copies=put(world.copies, agent, "UD"), last=value) for value in range(self.values)]
+        return [world._replace(copies=put(world.copies, agent, "UD"), last=value) for value in self.all_values
+                if not self.listed or self.is_stored(world.last, copy, value, place, word)]
+
+    def is_stored(self, before, copy, value, place, word):
+        """Whether the value has the word, and the others as before, but those of a copy that had no data."""
+        others = [it for it in range(self.places) if it != place]
+        kept = copy == "UCE" or all(self.word_at(value, it) == self.word_at(before, it) for it in others)
+        return kept and self.word_at(value, place) == word
 
     # -- flits of the home: the worlds behind it, or None where it isn't safe
 
@@ -243,7 +262,7 @@ class Line:
             return [acked._replace(copies=put(world.copies, agent, left))]
         if request.kind == "MakeUnique":
             return [acked._replace(copies=put(world.copies, agent, "UD"), last=value, void=False)
-                    for value in range(self.values)]
+                    for value in self.all_values]
         if request.kind == "CleanShared":
             return [done] if world.since[agent] else None
         if request.kind in ("CleanInvalid", "MakeInvalid") and not self.is_alone(world, agent):
@@ -288,8 +307,7 @@ class Line:
             return None
         _, agent, what, *words = flit
         line = object.__new__(Line)
-        line.agents, line.values, line.listed = self.agents, self.values, self.listed
-        line.snoops, line.duty = self.snoops, self.duty
+        line.__dict__.update(self.__dict__)
         if what == "snoop":
             line.snoops = put(self.snoops, agent, words[0])
         elif what == "answer":

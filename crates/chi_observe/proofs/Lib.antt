@@ -10,5 +10,6 @@ mod EqualFlits
 mod EqualIds
 mod EqualLines
 mod EqualWatches
+mod EqualWords
 mod EqualTables
 mod EqualParts

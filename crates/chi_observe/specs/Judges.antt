@@ -1,13 +1,16 @@
--- What judges the flits of a line: from the trace's beginning, from the middle of a longer one (docs/OBSERVER.md, "A trace
--- that begins in the middle"), or where the home receives them (docs/OBSERVER.md, "Seen at the home").
+-- What judges the flits of a line: from the trace's beginning, where all stores are listed by its words too
+-- (docs/OBSERVER.md, "Stores that are listed"), from the middle of a longer one (docs/OBSERVER.md, "A trace that begins in
+-- the middle"), or where the home receives them (docs/OBSERVER.md, "Seen at the home").
 use Rattle.std.specs.Prelude.{ℕ, zero, suc, Bool, true, false, not, List, Result, Ok, Err, nat_lt, if◌then◌else◌}
 use Rattle.std.specs.List.{slice_index_or}
 use Rattle.chi_observer.specs.declared.flits.Flit.{Flit}
 use Rattle.chi_observer.specs.declared.flits.Stores.{Stores}
+use Rattle.chi_observer.specs.declared.flits.Stores.TheVariants.{Hidden, Listed}
 use Rattle.chi_observer.specs.declared.observer.Reason.{Reason}
 use Rattle.chi_observer.specs.declared.arrivals.Untaken.{Untaken}
 use Rattle.chi_observer.specs.declared.arrivals.Untaken.TheVariants.{Fault, SetAside}
 use Rattle.chi_observer.specs.Lines.{Watched, is_reason, is_taken, nothing_watched, watch, watched}
+use Rattle.chi_observer.specs.ListedLines.{WatchedListed, is_listed_reason, is_taken_listed, listed_watched, nothing_listed, watch_listed}
 use Rattle.chi_observer.specs.Begun.{Beginning, begun, begun_after, forgetting, is_begun_reason, nothing_begun, takes_begun}
 use Rattle.chi_observer.specs.Arrivals.{Arrived, Outcome, arrived, is_untaken, nothing_arrived, outcome}
 use Rattle.chi_observer.specs.Arrivals.Outcome.{Taken, NotTaken, LeftOpen as LeftAtHome}
@@ -38,6 +41,7 @@ is_at_home options = is_of_home options.log
 -- with the number of the trace's line that a line from the middle was told last, or that came before its first
 pub data Judged : Type 0 where
   FromStart : Watched → Judged
+  FromListed : WatchedListed → Judged
   FromMiddle : Beginning → ℕ → Judged
   AtHome : Arrived → Judged
 
@@ -46,6 +50,7 @@ line_judged line = FromMiddle (begun line.begun) line.synced
 
 abbrev pub judged : {A : Type 0} → Judge A → Judged
 judged (judges.Whole observer) = FromStart (watched observer)
+judged (judges.Listed observer) = FromListed (listed_watched observer)
 judged (judges.Begun line) = line_judged line.value
 judged (judges.Home line) = AtHome (arrived line.value)
 
@@ -61,8 +66,12 @@ last_of last n = slice_index_or last n 0
 abbrev pub before_of : CodeBefore → Before
 before_of before = record { log = before.log; stores = before.stores; last = last_of before.last.now }
 
+abbrev pub opened_whole : Stores → Judged
+opened_whole Hidden = FromStart (nothing_watched Hidden)
+opened_whole Listed = FromListed nothing_listed
+
 abbrev pub opened_from : Log → Stores → ℕ → Judged
-opened_from Whole z number = FromStart (nothing_watched z)
+opened_from Whole z number = opened_whole z
 opened_from Tail z number = FromMiddle (nothing_begun z) number
 opened_from Home z number = AtHome nothing_arrived
 
@@ -93,6 +102,7 @@ home_verdict LeftAtHome = LeftOpen
 
 abbrev pub verdict : Before → ℕ → Judged → Flit → Verdict
 verdict before number (FromStart w) flit = known_if (is_taken w flit) (FromStart (watch w flit))
+verdict before number (FromListed l) flit = known_if (is_taken_listed l flit) (FromListed (watch_listed l flit))
 verdict before number (FromMiddle b synced) flit = known_if (takes_begun (woken before synced b) flit) (FromMiddle (begun_after (woken before synced b) flit) number)
 verdict before number (AtHome a) flit = home_verdict (outcome a flit)
 
@@ -107,6 +117,7 @@ fault_of (Err reason) = Err (Fault reason)
 
 abbrev pub is_judge_reason : Before → Judged → Flit → Reason → Bool
 is_judge_reason before (FromStart w) flit reason = is_reason w flit reason
+is_judge_reason before (FromListed l) flit reason = is_listed_reason l flit reason
 is_judge_reason before (FromMiddle b synced) flit reason = is_begun_reason (woken before synced b) flit reason
 is_judge_reason before (AtHome a) flit reason = is_untaken a flit (Fault reason)
 
@@ -117,6 +128,7 @@ is_judge_fault before told flit (SetAside aside) = true
 -- what is told
 abbrev pub told_in : Judged → Watched
 told_in (FromStart w) = w
+told_in (FromListed l) = l.line
 told_in (FromMiddle b synced) = b.seen
 told_in (AtHome a) = a.line
 

@@ -5,6 +5,7 @@ ghost use Rattle.std.specs.Bool.{IsTrue};
 ghost use Rattle.chi_observer.specs.Arrivals.{arrived, arriving_of};
 ghost use Rattle.chi_observer.specs.Begun.{begun, mark_of};
 ghost use Rattle.chi_observer.specs.Lines.{agent_of, shown_of, watched as told_of};
+ghost use Rattle.chi_observer.specs.ListedLines.{listed_watched, words_of};
 ghost use Rattle.chi_observer.specs.Worlds.{all_below};
 ghost use Rattle.chi_observe.specs.Benches.{benched};
 ghost use Rattle.chi_observe.specs.Bounded.{bounded};
@@ -22,7 +23,9 @@ use crate::judges::{BegunLine, Judge};
 use crate::lines::{LineSeen, LineTable};
 use crate::marks::Marks;
 use crate::watch::Watch;
-use chi_observer::{AgentBegun, AgentSeen, Arrivals, Arriving, Begun, Observer};
+use chi_observer::{
+    AgentBegun, AgentSeen, Arrivals, Arriving, Begun, KnownWords, ListedObserver, Observer,
+};
 use chi_trace::NodeId;
 use std::alloc::Allocator;
 
@@ -116,6 +119,34 @@ fn is_same_observer(one: &Observer, other: &Observer) -> bool
     stores & agents & home & current & duty & thrown & waits & shown
 }
 
+/// Whether the same is known of a word.
+fn is_same_word(one: &KnownWords, other: &KnownWords, place: usize) -> bool
+    ensures { IsTrue result ↔ (words_of one.now place ≡ words_of other.now place) }
+{
+    one.at(place) == other.at(place)
+}
+
+/// The same of each word of a line.
+#[tactic(auto, using(crate::proofs::EqualWords::one_more, crate::proofs::EqualWords::none_yet))]
+fn are_same_words(one: KnownWords, other: KnownWords) -> bool
+    ensures { IsTrue result ↔ (words_of one ≡ words_of other) }
+{
+    let mut same = true;
+    for n in 0..8 {
+        same &= is_same_word(&one, &other, n);
+    }
+    same
+}
+
+/// Whether two observers that know words are the same.
+#[tactic(auto, using(crate::proofs::EqualWords::listed_same))]
+fn is_same_listed(one: &ListedObserver, other: &ListedObserver) -> bool
+    ensures { IsTrue result ↔ (listed_watched one.now ≡ listed_watched other.now) }
+{
+    let observer = is_same_observer(&one.seen, &other.seen);
+    observer & are_same_words(one.words, other.words)
+}
+
 /// The same of two that begin in the middle.
 fn is_same_begun(one: &Begun, other: &Begun) -> bool
     ensures { IsTrue result ↔ (begun one.now ≡ begun other.now) }
@@ -170,22 +201,26 @@ impl BegunLine {
 
 impl<A: Allocator> Judge<A> {
     /// Whether both judge from the same.
-    #[tactic(auto, using(crate::proofs::EqualParts::start_same, crate::proofs::EqualParts::home_same))]
+    #[tactic(auto, using(crate::proofs::EqualParts::start_same, crate::proofs::EqualParts::start_listed_same, crate::proofs::EqualParts::home_same))]
     fn equals(&self, other: &Judge<A>) -> bool
         ensures { IsTrue result ↔ (judged self.now ≡ judged other.now) }
     {
         match self {
             Judge::Whole(own) => match other {
                 Judge::Whole(observer) => is_same_observer(own, observer),
-                Judge::Begun(_) | Judge::Home(_) => false,
+                Judge::Listed(_) | Judge::Begun(_) | Judge::Home(_) => false,
+            },
+            Judge::Listed(own) => match other {
+                Judge::Listed(observer) => is_same_listed(own, observer),
+                Judge::Whole(_) | Judge::Begun(_) | Judge::Home(_) => false,
             },
             Judge::Begun(own) => match other {
                 Judge::Begun(line) => own.equals(line),
-                Judge::Whole(_) | Judge::Home(_) => false,
+                Judge::Whole(_) | Judge::Listed(_) | Judge::Home(_) => false,
             },
             Judge::Home(own) => match other {
                 Judge::Home(arrivals) => are_same_arrivals(own, arrivals),
-                Judge::Whole(_) | Judge::Begun(_) => false,
+                Judge::Whole(_) | Judge::Listed(_) | Judge::Begun(_) => false,
             },
         }
     }

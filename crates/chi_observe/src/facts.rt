@@ -12,7 +12,7 @@ use crate::lines::LineSeen;
 use crate::marks::teller_of;
 use crate::reasons::{IdReason, LineReason};
 use crate::seen::event_of;
-use crate::texts::{key_of, words_beside};
+use crate::texts::{expected_in, key_of, words_beside};
 use crate::watch::{Watch, WatchFault};
 use chi_flit::Data;
 use chi_observer::{AGENTS, Flit, Reason, Told};
@@ -25,13 +25,13 @@ use std::alloc::Allocator;
 pub struct Ground {
     /// The id that a reason of ids rests on.
     pub key: Option<IdKey>,
-    /// The number of the flit that has told it; 0 where none has.
+    /// The number of the flit that has told it; 0 where none has, or loads and stores have told words.
     pub since: usize,
     /// Another node: the line's home, or the one whose copy is in the way.
     pub other: Option<NodeId>,
     /// What was told of a copy: of the one that is in the way, or of the requester's.
     pub told: Option<Told>,
-    /// The words that are known, and those of the flit, where they are others.
+    /// The words that are known, and those of the flit, where they are others; a word that isn't known is the flit's in both.
     pub words: Option<(Data, Data)>,
 }
 
@@ -127,19 +127,29 @@ impl<A: Allocator> Untaken<'_, A> {
         Ground::NONE
     }
 
+    /// Which flit has told the words that are known; 0 where loads and stores have.
+    fn words_since(&self) -> usize {
+        match self.seen {
+            Some(seen) => if self.judge.is_of_accesses(self.flit) {
+                0
+            } else {
+                seen.marks.words
+            },
+            None => 0,
+        }
+    }
+
     /// The words that are known, and which flit has told them.
     fn words(&self) -> Ground {
-        let since = match self.seen {
-            Some(seen) => seen.marks.words,
-            None => 0,
-        };
-        match self.judge.observer().home {
-            Some(known) => Ground {
-                since,
-                words: Some((known, words_beside(self.flit, known))),
-                ..self.copy(usize::from(teller_of(self.flit).0))
-            },
-            None => Ground::NONE,
+        let known = self.judge.known_words(self.flit);
+        let shown = words_beside(self.flit, known.words);
+        if known.known == [false; 8] {
+            return Ground::NONE;
+        }
+        Ground {
+            since: self.words_since(),
+            words: Some((expected_in(&known, &shown), shown)),
+            ..self.copy(usize::from(teller_of(self.flit).0))
         }
     }
 

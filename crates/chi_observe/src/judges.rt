@@ -1,17 +1,18 @@
-//! What judges the flits of a line of memory: an observer from the trace's beginning, one that begins in the middle, or one
-//! of what the home receives.
+//! What judges the flits of a line of memory: an observer from the trace's beginning, one that knows words where all stores
+//! are listed, one that begins in the middle, or one of what the home receives.
 
 ghost use Rattle.std.specs.Prelude.{◌≡◌, ◌<◌, IfErr, IfOk, OnErr, true};
 ghost use Rattle.chi_observer.specs.Arriving.{holds_none};
 ghost use Rattle.chi_observer.specs.Begun.{begun};
 ghost use Rattle.chi_observer.specs.Lines.{watched};
-ghost use Rattle.chi_observe.specs.Judges.{before_of, fault_of, holds, is_judge_fault, judged, line_judged, opened_from, told_in, verdict, verdict_of, wake, woken};
+ghost use Rattle.chi_observer.specs.ListedLines.{listed_watched};
+ghost use Rattle.chi_observe.specs.Judges.{before_of, fault_of, holds, is_judge_fault, judged, line_judged, opened_from, opened_whole, told_in, verdict, verdict_of, wake, woken};
 
 use crate::marks::teller_of;
 use chi_flit::Agent;
 use chi_observer::{
-    AGENTS, AgentSeen, Arrivals, Begun, Certainty, Due, Flit, Held, Observer, Reason, Stores, Told,
-    Untaken,
+    AGENTS, AgentSeen, Arrivals, Begun, Certainty, Due, Flit, Held, KnownWords, ListedObserver,
+    Observer, Reason, Stores, Told, Untaken,
 };
 use std::alloc::{AllocError, Allocator};
 
@@ -51,6 +52,8 @@ pub(crate) struct BegunLine {
 pub(crate) enum Judge<A: Allocator> {
     /// From the trace's beginning.
     Whole(Observer),
+    /// So too, where all stores are listed.
+    Listed(ListedObserver),
     /// From the middle.
     Begun(Box<BegunLine, A>),
     /// By what the home receives.
@@ -175,6 +178,16 @@ fn copy_of(observer: &Observer) -> Observer
     }
 }
 
+/// The same of one that knows words.
+fn listed_copy(observer: &ListedObserver) -> ListedObserver
+    ensures { listed_watched result ≡ listed_watched observer.now }
+{
+    ListedObserver {
+        seen: copy_of(&observer.seen),
+        words: observer.words,
+    }
+}
+
 /// The same of what the home receives.
 fn arrivals_copy(arrivals: &Arrivals) -> Arrivals
     ensures { result ≡ arrivals.now }
@@ -183,6 +196,16 @@ fn arrivals_copy(arrivals: &Arrivals) -> Arrivals
         seen: copy_of(&arrivals.seen),
         agents: arrivals.agents,
         timed: arrivals.timed,
+    }
+}
+
+/// That of a line which no flit has touched, from the trace's beginning.
+fn whole<A: Allocator>(stores: Stores) -> Judge<A>
+    ensures { judged result ≡ opened_whole stores }
+{
+    match stores {
+        Stores::Hidden => Judge::Whole(Observer::new(stores)),
+        Stores::Listed => Judge::Listed(ListedObserver::new()),
     }
 }
 
@@ -197,7 +220,7 @@ impl<A: Allocator> Judge<A> {
         ensures { IfOk result (λ judge. judged judge ≡ opened_from log stores number) }
     {
         match log {
-            Log::Whole => Ok(Judge::Whole(Observer::new(stores))),
+            Log::Whole => Ok(whole(stores)),
             Log::Tail => {
                 let begun = Begun::new(stores);
                 let line = BegunLine {
@@ -220,6 +243,7 @@ impl<A: Allocator> Judge<A> {
     {
         match self {
             Judge::Whole(observer) => untaken(observer.take(flit)),
+            Judge::Listed(observer) => untaken(observer.take(flit)),
             Judge::Begun(line) => line.take(flit, before, number),
             Judge::Home(arrivals) => arrivals.take(flit),
         }
@@ -231,6 +255,7 @@ impl<A: Allocator> Judge<A> {
     {
         match self {
             Judge::Whole(observer) => Ok(Judge::Whole(copy_of(observer))),
+            Judge::Listed(observer) => Ok(Judge::Listed(listed_copy(observer))),
             Judge::Begun(line) => Ok(Judge::Begun(Box::new(alloc, line.copy())?)),
             Judge::Home(arrivals) => { Ok(Judge::Home(Box::new(alloc, arrivals_copy(arrivals))?)) }
         }
@@ -240,6 +265,7 @@ impl<A: Allocator> Judge<A> {
     pub(crate) fn takes(&self, flit: Flit, before: &Before) -> bool {
         match self {
             Judge::Whole(observer) => copy_of(observer).take(flit).is_ok(),
+            Judge::Listed(observer) => listed_copy(observer).take(flit).is_ok(),
             Judge::Begun(line) => line.woken(before).take(flit).is_ok(),
             Judge::Home(arrivals) => {
                 let taken = arrivals_copy(arrivals).take(flit);
@@ -253,7 +279,7 @@ impl<A: Allocator> Judge<A> {
         let agent = usize::from(teller_of(flit).0);
         let mut pair = pair_of(self.observer(), agent, other);
         let taken = match self {
-            Judge::Whole(_) | Judge::Home(_) => pair.take(flit),
+            Judge::Whole(_) | Judge::Listed(_) | Judge::Home(_) => pair.take(flit),
             Judge::Begun(line) => {
                 let agents = line.begun.agents;
                 let mut begun = Begun {
@@ -269,7 +295,7 @@ impl<A: Allocator> Judge<A> {
     /// How much is known of an agent's copy.
     pub(crate) fn certainty(&self, agent: usize) -> Certainty {
         match self {
-            Judge::Whole(_) | Judge::Home(_) => Certainty::Told,
+            Judge::Whole(_) | Judge::Listed(_) | Judge::Home(_) => Certainty::Told,
             Judge::Begun(line) => match line.begun.agents.get(agent) {
                 Some(mark) => mark.copy,
                 None => Certainty::Unknown,
@@ -288,8 +314,25 @@ impl<A: Allocator> Judge<A> {
     {
         match self {
             Judge::Whole(observer) => observer,
+            Judge::Listed(observer) => &observer.seen,
             Judge::Begun(line) => &line.begun.observer,
             Judge::Home(arrivals) => &arrivals.seen,
+        }
+    }
+
+    /// The words that are known which those of the flit are to be.
+    pub(crate) fn known_words(&self, flit: Flit) -> KnownWords {
+        match (self, flit) {
+            (Judge::Listed(observer), Flit::Up(_)) => observer.known_words(),
+            _ => KnownWords::all(&self.observer().home),
+        }
+    }
+
+    /// Whether loads and stores told these words, and no data the whole value since.
+    pub(crate) fn is_of_accesses(&self, flit: Flit) -> bool {
+        match (self, flit) {
+            (Judge::Listed(observer), Flit::Up(_)) => !observer.seen.current,
+            _ => false,
         }
     }
 
@@ -299,6 +342,7 @@ impl<A: Allocator> Judge<A> {
     {
         match self {
             Judge::Whole(_) => false,
+            Judge::Listed(_) => false,
             Judge::Begun(_) => false,
             Judge::Home(arrivals) => match arrivals.agents.get(usize::from(agent.0)) {
                 Some(own) => !is_none(own.held),

@@ -12,9 +12,10 @@ use crate::reasons::{IdReason, LineReason};
 use crate::steps::IdStep;
 use crate::tables::Part;
 use crate::watch::{Watch, WatchFault};
-use chi_flit::{Agent, Data, NO_DATA};
+use chi_flit::{Agent, Data};
 use chi_observer::{
-    AGENTS, Act, Aside, CacheFlit, Certainty, Due, Flit, HomeFlit, Kind, Observer, Reason, Told,
+    AGENTS, Act, Aside, CacheFlit, Certainty, Due, Flit, HomeFlit, Kind, KnownWords, Observer,
+    Reason, Told,
 };
 use chi_trace::NodeId;
 use std::alloc::{AllocError, Allocator};
@@ -138,11 +139,6 @@ struct Known<'a, A: Allocator> {
     seen: Option<&'a LineSeen<A>>,
 }
 
-/// The home's words that are known.
-fn known_words(observer: &Observer) -> Data {
-    observer.home.unwrap_or(NO_DATA)
-}
-
 /// Whether the id is of what the home awaits of a requester: a CompAck or write data.
 fn is_awaited(id: &OpenId) -> bool {
     matches!(id.key, IdKey::Buffer(_, _))
@@ -236,16 +232,26 @@ impl<A: Allocator> Known<'_, A> {
         Ok(())
     }
 
-    /// Puts the words that are others than the known ones behind the text.
-    fn write_words(&self, text: &mut String<A>, shown: Data) -> Result<(), AllocError> {
-        let known = known_words(self.judge.observer());
+    /// Puts the words of the flit that are others than the known ones behind the text.
+    fn write_words(&self, text: &mut String<A>, flit: Flit) -> Result<(), AllocError> {
+        let known = self.judge.known_words(flit);
+        let shown = words_beside(flit, known.words);
+        let wanted = expected_in(&known, &shown);
         let mut first = true;
         for word in 0..8 {
-            let (is, expected) = (shown[word], known[word]);
+            let (is, expected) = (shown[word], wanted[word]);
             if is != expected {
                 write_next(text, &mut first)?;
                 write!(text, "word {word} is {is:x}, expected {expected:x}")?;
             }
+        }
+        self.write_words_since(text, flit)
+    }
+
+    /// Puts what has told the known words behind the text.
+    fn write_words_since(&self, text: &mut String<A>, flit: Flit) -> Result<(), AllocError> {
+        if self.judge.is_of_accesses(flit) {
+            return write!(text, ", by loads and stores");
         }
         if let Some(seen) = self.seen {
             let number = seen.marks.words;
@@ -289,10 +295,7 @@ impl<A: Allocator> Known<'_, A> {
             }
             Reason::NoDuty => write!(text, "the home has no dirty data to pass on"),
             Reason::Lost => write!(text, "the value last stored may have been thrown away"),
-            Reason::OtherWords => {
-                let known = known_words(self.judge.observer());
-                self.write_words(text, words_beside(flit, known))
-            }
+            Reason::OtherWords => self.write_words(text, flit),
             Reason::OtherCopy => self.write_others(text, flit),
             Reason::NoAgent | Reason::NotJudged => write!(text, "it isn't judged"),
         }
@@ -320,6 +323,17 @@ pub(crate) fn words_beside(flit: Flit, known: Data) -> Data {
     words
 }
 
+/// The words that a flit with these is expected to have: of those that aren't known its own.
+pub(crate) fn expected_in(known: &KnownWords, shown: &Data) -> Data {
+    let mut expected = *shown;
+    for n in 0..8 {
+        if known.known[n] {
+            expected[n] = known.words[n];
+        }
+    }
+    expected
+}
+
 /// The flits that the line takes in place of this one, by their names.
 fn write_allowed<A: Allocator>(
     text: &mut String<A>,
@@ -328,7 +342,7 @@ fn write_allowed<A: Allocator>(
     flit: Flit,
 ) -> Result<(), AllocError> {
     let length = text.len();
-    let shown = known_words(judge.observer());
+    let shown = judge.known_words(flit).words;
     match flit {
         Flit::Up(sent) => write_sent(text, judge, before, sent.agent, shown)?,
         Flit::Down(given) => write_given(text, judge, before, given.agent, shown)?,
