@@ -1,4 +1,5 @@
 pub mod Ports
+pub mod Totals
 pub mod Turns
 pub mod Texts
 pub mod NodeReplies

@@ -9,7 +9,8 @@ ghost use Rattle.chi_replay.specs.Replies.{reply_text};
 
 use crate::credits::SeenCredits;
 use crate::prints::Printable;
-use crate::replies::Reply;
+use crate::replies::{Reply, print_totals};
+use crate::totals::NodeTotals;
 use chi_flit::NoMemory;
 use chi_node::System;
 use std::alloc::Allocator;
@@ -30,6 +31,14 @@ pub(crate) trait Listener {
         credits: SeenCredits,
     ) -> Result<(), NoMemory>
         ensures { hears self.old system.now.home (replies.Credits credits) self.new result };
+
+    /// Hears the reply of a `totals`, whose numbers are the largest part that a reply can have: they are lent.
+    fn hear_totals<A: Allocator>(
+        &mut self,
+        system: &System<A>,
+        totals: &NodeTotals,
+    ) -> Result<(), NoMemory>
+        ensures { hears self.old system.now.home (replies.Totals totals.now) self.new result };
 }
 
 /// A text gets each reply's line. Refused where memory for it runs out.
@@ -51,6 +60,17 @@ impl<B: Allocator> Listener for String<B> {
         credits: SeenCredits,
     ) -> Result<(), NoMemory> {
         credits.print(self)?;
+        self.push('\n')?;
+        Ok(())
+    }
+
+    #[inline(always)]
+    fn hear_totals<A: Allocator>(
+        &mut self,
+        _system: &System<A>,
+        totals: &NodeTotals,
+    ) -> Result<(), NoMemory> {
+        print_totals(totals, self)?;
         self.push('\n')?;
         Ok(())
     }
@@ -76,6 +96,16 @@ impl Listener for Heard {
         credits: SeenCredits,
     ) -> Result<(), NoMemory> {
         self.0 = Reply::Credits(credits);
+        Ok(())
+    }
+
+    #[inline(always)]
+    fn hear_totals<A: Allocator>(
+        &mut self,
+        _system: &System<A>,
+        totals: &NodeTotals,
+    ) -> Result<(), NoMemory> {
+        self.0 = Reply::Totals(*totals);
         Ok(())
     }
 }

@@ -124,15 +124,14 @@ fn print_refused<A: Allocator>(refusal: Refusal, printed: &mut String<A>) -> Res
 
 /// Prints numbers of entries. It isn't inlined, so that the frame of the others stays small.
 #[inline(never)]
-fn print_totals<A: Allocator>(
+pub(crate) fn print_totals<A: Allocator>(
     totals: &NodeTotals,
     printed: &mut String<A>,
 ) -> Result<(), AllocError>
     ensures { OnOk result (string_bytes printed.new
         ≡ string_bytes printed.old ++ (codes "ok " ++ totals_text totals.now)) }
 {
-    printed.push_str("ok ")?;
-    totals.print(printed)
+    totals.print_behind("ok free", printed)
 }
 
 /// Prints what an audit found. It isn't inlined either.

@@ -66,7 +66,7 @@ fn totals<A: Allocator, L: Listener>(system: &System<A>, listener: &mut L) -> Re
 {
     let counts = system.glance();
     let profile = system.config().profile();
-    listener.hear(system, Reply::Totals(NodeTotals { counts, profile }))
+    listener.hear_totals(system, &NodeTotals { counts, profile })
 }
 
 /// The loads and stores, and whether all is coherent: the headline of the node is asked for.

@@ -17,4 +17,4 @@ returns g c =
     let profile : c.profile-profile.result ≡ y.home.config.profile = c.profile-profile.ensures ∙ ap (λ (k : Sizes). k.profile) c.config.ensures.is in
     let told : NodeTotals = record { counts = counts; profile = c.profile-profile.result } in
     let plays : PlaysTurn Totals y y (replies.Totals told) = glance_plays y counts c.profile-profile.result four profile in
-    (replies.Totals told, plays, c.hear.ensures)
+    (replies.Totals told, plays, c.hear_totals.ensures)
