@@ -6,10 +6,9 @@ legal where it is safe in every world whose home has the words that it sends. A 
 its cache does nothing before it. Data that come behind newer ones leave the home's copy as it is.
 """
 
-from collections import defaultdict
 from typing import NamedTuple, Optional
 
-from worlds import ANSWERS, COPY_BACKS, FORMS, NEEDED, READ_FORMS, THROWING, WRITING, Request, put
+from worlds import ANSWERS, COPY_BACKS, FORMS, NEEDED, READ_FORMS, THROWING, WRITING, Request, behind_home, put
 
 # worlds whose hidden steps are remembered
 MOST_REMEMBERED = 100_000
@@ -303,25 +302,7 @@ class Transits:
             return {one for world in self.worlds if (one := act(world, agent, *words))}
         if not self.is_known(agent, what, words):
             return set()
-        groups = defaultdict(list)
-        for world in self.worlds:
-            groups[world.home].append(world)
-        return {it for home, group in groups.items() for it in self.safe_in(home, group, act, agent, what, words)}
-
-    @staticmethod
-    def safe_in(home, group, act, agent, what, words):
-        """What the home's flit makes of the worlds with this value of its own copy; none where some is unsafe."""
-        if what == "complete" and words[0].startswith("CompData") and words[1] != home:
-            # (what a dirty requester is given doesn't matter)
-            if not all(world.copies[agent] in ("SD", "UD") for world in group):
-                return []
-        behind = []
-        for world in group:
-            made = act(world, agent, *words)
-            if made is None or not all(map(is_coherent, made)):
-                return []
-            behind += made
-        return behind
+        return behind_home(self.worlds, is_coherent, act, agent, what, words)
 
     def behind(self, flit) -> Optional["Transits"]:
         """The line behind the flit, or None where the flit isn't legal."""

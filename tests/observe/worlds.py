@@ -101,6 +101,29 @@ def goes_on(world, agent, stored):
         yield world._replace(copies=put(world.copies, agent, "I"))
 
 
+def behind_home(worlds, coherent, act, agent, what, words):
+    """What a flit of the home makes of the worlds, for each value of its own copy with which it is safe in all."""
+    groups = defaultdict(list)
+    for world in worlds:
+        groups[world.home].append(world)
+    return {it for home, group in groups.items() for it in safe_in(home, group, coherent, act, agent, what, words)}
+
+
+def safe_in(home, group, coherent, act, agent, what, words):
+    """What it makes of the worlds with this value of the home's own copy; none where some is unsafe."""
+    if what == "complete" and words[0].startswith("CompData") and words[1] != home:
+        # (what a dirty requester is given doesn't matter)
+        if not all(world.copies[agent] in ("SD", "UD") for world in group):
+            return []
+    behind = []
+    for world in group:
+        made = act(world, agent, *words)
+        if made is None or not all(map(coherent, made)):
+            return []
+        behind += made
+    return behind
+
+
 class Line:
     """The worlds of a line, with what everybody has seen: its unanswered snoops, and the home's duty."""
 
@@ -282,23 +305,7 @@ class Line:
             if what == "load" and not any(self.reads(world, agent, *words) for world in made):
                 return set()
             return {it for one in made for it in (one if isinstance(one, list) else [one])}
-        groups = defaultdict(list)
-        for world in self.worlds:
-            groups[world.home].append(world)
-        return {it for home, group in groups.items() for it in self.safe_in(home, group, act, agent, what, words)}
-
-    @staticmethod
-    def safe_in(home, group, act, agent, what, words):
-        """What the home's flit makes of the worlds with this value of its own copy; none where some is unsafe."""
-        if what == "complete" and words[0].startswith("CompData") and words[1] != home:
-            # (what a dirty requester is given doesn't matter)
-            if not all(world.copies[agent] in ("SD", "UD") for world in group):
-                return []
-        made = [act(world, agent, *words) for world in group]
-        if any(it is None for it in made):
-            return []
-        behind = [it for items in made for it in items]
-        return behind if all(map(is_coherent, behind)) else []
+        return behind_home(self.worlds, is_coherent, act, agent, what, words)
 
     def behind(self, flit) -> Optional["Line"]:
         """The line behind the flit, or None where the flit isn't legal."""
