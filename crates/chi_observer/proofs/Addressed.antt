@@ -19,7 +19,7 @@ use Rattle.chi_observer.specs.Tables.{Known, fills_told, shows_told, strongest, 
 use Rattle.chi_observer.specs.Begun.{certainty_given, left_over, reads_unique, receiver, supposed_of, told_kept}
 use Rattle.chi_observer.proofs.Finite.{no, right, both, implies, follow, all_bools, each_bool, all_tolds, each_told, all_copies, each_copy}
 use Rattle.chi_observer.proofs.Facts.{same_truth}
-use Rattle.chi_observer.proofs.Spots.{all_gifts, told_gifts, each_told_gift, each_due_gift}
+use Rattle.chi_observer.proofs.Spots.{Gifts, by_kind, told_gifts, each_told_gift, each_due_gift}
 use Rattle.chi_observer.proofs.Supposed.{all_certain, all_marks, each_certain, each_mark, holds_by, is_alone, is_calmer, is_open_clean, may_stand, one_is, same_told}
 
 -- what is due, and told, where it is supposed
@@ -66,9 +66,9 @@ given_in g d q t c asked = implies (may_give c asked g d t) (given_well c asked 
 abbrev given_table : Grant → Due → Option Snoop → Known → Bool
 given_table g d q t = all_marks (λ c asked. given_in g d q t c asked)
 
-given_holds : all_gifts (told_gifts given_table) ≡ true
+given_holds : Gifts (told_gifts given_table)
 unfolding given_in
-given_holds = refl
+given_holds = by_kind (told_gifts given_table) (λ x. refl)
 
 pub gives_well : (c : Certainty) (asked : Bool) (g : Grant) (d : Due) (q : Option Snoop) (t : Known) → is_due g d q ≡ true → may_give c asked g d t ≡ true → given_well c asked g d q t.told ≡ true
 unfolding given_in
@@ -81,9 +81,9 @@ goes_in g d q t c asked r = implies (may_give c asked g d t) (implies (compatibl
 abbrev goes_table : Grant → Due → Option Snoop → Known → Bool
 goes_table g d q t = all_marks (λ c asked. all_copies (λ r. goes_in g d q t c asked r))
 
-goes_holds : all_gifts (told_gifts goes_table) ≡ true
+goes_holds : Gifts (told_gifts goes_table)
 unfolding goes_in
-goes_holds = refl
+goes_holds = by_kind (told_gifts goes_table) (λ x. refl)
 
 pub gives_beside : (c : Certainty) (asked : Bool) (g : Grant) (d : Due) (q : Option Snoop) (t : Known) (r : Copy) → is_due g d q ≡ true → may_give c asked g d t ≡ true
     → compatible (strongest (told_by g d t.told)) r ≡ true → compatible (strongest (told_by g (due_to asked d) (told_to c asked g d t.told))) r ≡ true
@@ -99,9 +99,9 @@ is_nothing (Some snoop) = false
 none_in : Grant → Due → Option Snoop → Bool
 none_in g d q = is_due g d (Some SnpOnce) || is_nothing q
 
-none_holds : all_gifts none_in ≡ true
+none_holds : Gifts none_in
 unfolding none_in
-none_holds = refl
+none_holds x k = refl
 
 none_is : (q : Option Snoop) → is_nothing q ≡ true → q ≡ None
 none_is None h = refl

@@ -22,7 +22,7 @@ use Rattle.chi_observer.specs.Observed.{Observed, Unstored, Meaning, next, next_
 use Rattle.chi_observer.specs.Moments.{tells_of, may_be_stored, home_is_last}
 use Rattle.chi_observer.specs.Runs.{seen, Behind, HomeIsLast, Accepted}
 use Rattle.chi_observer.proofs.Finite.{no, left, right, both, implies, follow}
-use Rattle.chi_observer.proofs.Spots.{all_due_copies, each_due_copy}
+use Rattle.chi_observer.proofs.Spots.{DueCopies, each_due_copy}
 use Rattle.chi_observer.proofs.Facts.{turned, and_false, calm_copy, top_copy, reach_self, is_settled}
 use Rattle.chi_observer.proofs.Words.{or_words, others_than, others_differ, be_true}
 use Rattle.chi_observer.proofs.Put.{here, there, split, differ, unlike}
@@ -61,10 +61,10 @@ stored_top d = record { copy = UniqueDirty; cancelled = is_resending d }
 stored_table : Stores → Due → Known → Held → Bool
 stored_table mode d t s = implies (hides_stores mode d && is_unique (most t)) (reach mode d t (stored_top d) && fresh mode d t (stored_top d))
 
-stored_holds : (mode : Stores) → all_due_copies (stored_table mode) ≡ true
+stored_holds : (mode : Stores) → DueCopies (stored_table mode)
 unfolding stored_table
-stored_holds Hidden = refl
-stored_holds Listed = refl
+stored_holds Hidden k = refl
+stored_holds Listed k = refl
 
 pub stored_found : (mode : Stores) (d : Due) (t : Known) → (hides_stores mode d && is_unique (most t)) ≡ true → (reach mode d t (stored_top d) && fresh mode d t (stored_top d)) ≡ true
 unfolding stored_table

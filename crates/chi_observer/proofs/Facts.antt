@@ -17,7 +17,7 @@ use Rattle.chi_observer.specs.Copies.Copy.{Invalid, UniqueDirty, SharedDirty, Wr
 use Rattle.chi_observer.specs.Rules.{is_free, are_hidden, hides_stores, reads_any, is_resending, acts, throws, loses, looks, stores, leaves_any, has_data, writes, tells_words, due_after}
 use Rattle.chi_observer.specs.Tables.{Known, strongest, most, may, may_drift, reach, fresh, goes_with, told_behind, told_after, fits_told, tells_dirty, renews}
 use Rattle.chi_observer.proofs.Finite.{no, left, right, both, implies, follow}
-use Rattle.chi_observer.proofs.Spots.{if_some, acted_can, fits_can, Tried, all_plain, all_paired, spots, each_spot, sent_spots, each_sent, told_spots, each_told_spot, known_spots, each_known_spot, all_due_copies, each_due_copy, all_pairs, each_pair, all_told_pairs, each_told_pair, all_copy_pairs, each_copy_pair}
+use Rattle.chi_observer.proofs.Spots.{if_some, acted_can, fits_can, Tried, all_plain, all_paired, spots, each_spot, sent_spots, each_sent, told_spots, each_told_spot, known_spots, each_known_spot, DueCopies, each_due_copy, all_pairs, each_pair, all_told_pairs, each_told_pair, all_copy_pairs, each_copy_pair}
 
 pub turned : (b : Bool) → not b ≡ true → b ≡ false
 turned true h = no h
@@ -262,10 +262,10 @@ some_same (Some a) s h = ap (λ (x : Held). Some x) (same_held_is a s h)
 below_table : Stores → Due → Known → Held → Bool
 below_table mode d t s = implies (reach mode d t s) (may_drift mode t.told s.copy)
 
-below_holds : (mode : Stores) → all_due_copies (below_table mode) ≡ true
+below_holds : (mode : Stores) → DueCopies (below_table mode)
 unfolding below_table
-below_holds Hidden = refl
-below_holds Listed = refl
+below_holds Hidden k = refl
+below_holds Listed k = refl
 
 pub drifted : (mode : Stores) (d : Due) (t : Known) (s : Held) → reach mode d t s ≡ true → may_drift mode t.told s.copy ≡ true
 unfolding below_table
@@ -339,10 +339,10 @@ told_goes mode a x d t u b f c = follow (goes_with t u) _ (follow (fits_told mod
 dirty_table : Stores → Due → Known → Held → Bool
 dirty_table mode d t s = implies (same (most t) UniqueDirty && reach mode d t s) (is_dirty s.copy)
 
-dirty_holds : (mode : Stores) → all_due_copies (dirty_table mode) ≡ true
+dirty_holds : (mode : Stores) → DueCopies (dirty_table mode)
 unfolding dirty_table
-dirty_holds Hidden = refl
-dirty_holds Listed = refl
+dirty_holds Hidden k = refl
+dirty_holds Listed k = refl
 
 pub surely_dirty : (mode : Stores) (d : Due) (t : Known) (s : Held) → same (most t) UniqueDirty ≡ true → reach mode d t s ≡ true → is_dirty s.copy ≡ true
 unfolding dirty_table
@@ -381,10 +381,10 @@ stays_dirty mode a x d t b h = follow _ _ (each_known_spot (stays_table mode) (s
 clean_table : Stores → Due → Known → Held → Bool
 clean_table mode d t s = implies (not (is_dirty s.copy)) (not (fresh mode d t s))
 
-clean_holds : (mode : Stores) → all_due_copies (clean_table mode) ≡ true
+clean_holds : (mode : Stores) → DueCopies (clean_table mode)
 unfolding clean_table
-clean_holds Hidden = refl
-clean_holds Listed = refl
+clean_holds Hidden k = refl
+clean_holds Listed k = refl
 
 pub unstored_clean : (mode : Stores) (d : Due) (t : Known) (s : Held) → is_dirty s.copy ≡ false → fresh mode d t s ≡ false
 unfolding clean_table
@@ -394,10 +394,10 @@ unstored_clean mode d t s h = turned _ (follow _ _ (each_due_copy (clean_table m
 store_table : Stores → Due → Known → Held → Bool
 store_table mode d t s = implies (are_hidden mode && (is_free d s && (reach mode d t s && is_unique s.copy))) (reach mode d t (of_form UniqueDirty s) && fresh mode d t (of_form UniqueDirty s))
 
-store_holds : (mode : Stores) → all_due_copies (store_table mode) ≡ true
+store_holds : (mode : Stores) → DueCopies (store_table mode)
 unfolding store_table
-store_holds Hidden = refl
-store_holds Listed = refl
+store_holds Hidden k = refl
+store_holds Listed k = refl
 
 pub store_well : (mode : Stores) (d : Due) (t : Known) (s : Held) → (are_hidden mode && (is_free d s && (reach mode d t s && is_unique s.copy))) ≡ true → (reach mode d t (of_form UniqueDirty s) && fresh mode d t (of_form UniqueDirty s)) ≡ true
 unfolding store_table
@@ -406,10 +406,10 @@ store_well mode d t s = follow _ _ (each_due_copy (store_table mode) (store_hold
 drop_table : Stores → Due → Known → Held → Bool
 drop_table mode d t s = implies (is_free d s && (reach mode d t s && is_clean s.copy)) (reach mode d t (of_form Invalid s) && not (fresh mode d t s))
 
-drop_holds : (mode : Stores) → all_due_copies (drop_table mode) ≡ true
+drop_holds : (mode : Stores) → DueCopies (drop_table mode)
 unfolding drop_table
-drop_holds Hidden = refl
-drop_holds Listed = refl
+drop_holds Hidden k = refl
+drop_holds Listed k = refl
 
 pub drop_well : (mode : Stores) (d : Due) (t : Known) (s : Held) → (is_free d s && (reach mode d t s && is_clean s.copy)) ≡ true → (reach mode d t (of_form Invalid s) && not (fresh mode d t s)) ≡ true
 unfolding drop_table
@@ -424,10 +424,10 @@ waiting s = record { copy = s.copy; cancelled = false }
 cancel_table : Stores → Due → Known → Held → Bool
 cancel_table mode d t s = implies (is_resending d && (reach mode d t s && not s.cancelled)) (reach mode d t (gone s) && not (fresh mode d t s))
 
-cancel_holds : (mode : Stores) → all_due_copies (cancel_table mode) ≡ true
+cancel_holds : (mode : Stores) → DueCopies (cancel_table mode)
 unfolding cancel_table
-cancel_holds Hidden = refl
-cancel_holds Listed = refl
+cancel_holds Hidden k = refl
+cancel_holds Listed k = refl
 
 pub cancel_well : (mode : Stores) (d : Due) (t : Known) (s : Held) → (is_resending d && (reach mode d t s && not s.cancelled)) ≡ true → (reach mode d t (gone s) && not (fresh mode d t s)) ≡ true
 unfolding cancel_table
@@ -437,10 +437,10 @@ cancel_well mode d t s = follow _ _ (each_due_copy (cancel_table mode) (cancel_h
 way_table : Stores → Due → Known → Held → Bool
 way_table mode d t s = implies (is_free d s && (reach mode d t s && not (may t.told s.copy && not (fresh mode d t s)))) ((reach mode d t (of_form (most t) s) && may t.told (most t)) && (if fresh mode d t s then is_unique (most t) && same s.copy UniqueDirty else is_clean (most t) && same s.copy Invalid))
 
-way_holds : (mode : Stores) → all_due_copies (way_table mode) ≡ true
+way_holds : (mode : Stores) → DueCopies (way_table mode)
 unfolding way_table
-way_holds Hidden = refl
-way_holds Listed = refl
+way_holds Hidden k = refl
+way_holds Listed k = refl
 
 pub way : (mode : Stores) (d : Due) (t : Known) (s : Held) → (is_free d s && (reach mode d t s && not (may t.told s.copy && not (fresh mode d t s)))) ≡ true → ((reach mode d t (of_form (most t) s) && may t.told (most t)) && (if fresh mode d t s then is_unique (most t) && same s.copy UniqueDirty else is_clean (most t) && same s.copy Invalid)) ≡ true
 unfolding way_table
@@ -450,10 +450,10 @@ way mode d t s = follow _ _ (each_due_copy (way_table mode) (way_holds mode) d t
 back_table : Stores → Due → Known → Held → Bool
 back_table mode d t s = implies (reach mode d t s && implies (is_free d s) (may t.told s.copy)) (is_settled d t s || (is_resending d && (s.cancelled && (reach mode d t (waiting s) && is_settled d t (waiting s)))))
 
-back_holds : (mode : Stores) → all_due_copies (back_table mode) ≡ true
+back_holds : (mode : Stores) → DueCopies (back_table mode)
 unfolding back_table
-back_holds Hidden = refl
-back_holds Listed = refl
+back_holds Hidden k = refl
+back_holds Listed k = refl
 
 pub way_back : (mode : Stores) (d : Due) (t : Known) (s : Held) → (reach mode d t s && implies (is_free d s) (may t.told s.copy)) ≡ true → (is_settled d t s || (is_resending d && (s.cancelled && (reach mode d t (waiting s) && is_settled d t (waiting s))))) ≡ true
 unfolding back_table
@@ -466,10 +466,10 @@ top_copy d t = record { copy = most t; cancelled = is_resending d && t.cancelled
 self_table : Stores → Due → Known → Held → Bool
 self_table mode d t s = reach mode d t (top_copy d t)
 
-self_holds : (mode : Stores) → all_due_copies (self_table mode) ≡ true
+self_holds : (mode : Stores) → DueCopies (self_table mode)
 unfolding self_table
-self_holds Hidden = refl
-self_holds Listed = refl
+self_holds Hidden k = refl
+self_holds Listed k = refl
 
 pub reach_self : (mode : Stores) (d : Due) (t : Known) → reach mode d t (top_copy d t) ≡ true
 unfolding self_table
@@ -514,10 +514,10 @@ beside_writing s r h c = turned _ (follow (compatible s r) _ (follow (same s Wri
 gone_table : Stores → Due → Known → Held → Bool
 gone_table mode d t s = implies (same (most t) Invalid && reach mode d t s) (same s.copy Invalid)
 
-gone_holds : (mode : Stores) → all_due_copies (gone_table mode) ≡ true
+gone_holds : (mode : Stores) → DueCopies (gone_table mode)
 unfolding gone_table
-gone_holds Hidden = refl
-gone_holds Listed = refl
+gone_holds Hidden k = refl
+gone_holds Listed k = refl
 
 pub none_left : (mode : Stores) (d : Due) (t : Known) (s : Held) → same (most t) Invalid ≡ true → reach mode d t s ≡ true → same s.copy Invalid ≡ true
 unfolding gone_table
@@ -527,10 +527,10 @@ none_left mode d t s h r = follow _ _ (each_due_copy (gone_table mode) (gone_hol
 calm_table : Stores → Due → Known → Held → Bool
 calm_table mode d t s = implies (not (hides_stores mode d && is_unique (most t))) (not (fresh mode d t s))
 
-calm_holds : (mode : Stores) → all_due_copies (calm_table mode) ≡ true
+calm_holds : (mode : Stores) → DueCopies (calm_table mode)
 unfolding calm_table
-calm_holds Hidden = refl
-calm_holds Listed = refl
+calm_holds Hidden k = refl
+calm_holds Listed k = refl
 
 pub calm_copy : (mode : Stores) (d : Due) (t : Known) (s : Held) → not (hides_stores mode d && is_unique (most t)) ≡ true → fresh mode d t s ≡ false
 unfolding calm_table
@@ -545,10 +545,10 @@ load_holds_data other x d s s' h e = no h
 read_table : Stores → Due → Known → Held → Bool
 read_table mode d t s = implies (not (reads_any mode d (most t))) (not (fresh mode d t s)) && implies (reach mode d t s && reads_any mode d s.copy) (reads_any mode d (most t))
 
-read_holds : (mode : Stores) → all_due_copies (read_table mode) ≡ true
+read_holds : (mode : Stores) → DueCopies (read_table mode)
 unfolding read_table
-read_holds Hidden = refl
-read_holds Listed = refl
+read_holds Hidden k = refl
+read_holds Listed k = refl
 
 pub read_calm : (mode : Stores) (d : Due) (t : Known) (s : Held) → reads_any mode d (most t) ≡ false → fresh mode d t s ≡ false
 unfolding read_table

@@ -1,6 +1,5 @@
 -- Behind a flit of the home, what an observer of a tail keeps stands above what an observer of the whole keeps.
 use Rattle.std.proofs.Common.{◌≡◌, ◌≢◌, ◌⊎◌, inl, inr, ℕ, ◌<◌, List, refl, sym, ap, subst, ◌∙◌}
-use Rattle.chi_flit.specs.declared.state.State.TheVariants as states
 use Rattle.std.specs.Prelude.{Bool, true, false, ◌&&◌, ◌||◌, ◌==◌, not, nat_lt, Option, Some, None, if◌then◌else◌}
 use Rattle.chi_observer.specs.declared.kinds.Snoop.{Snoop}
 use Rattle.chi_observer.specs.declared.kinds.Snoop.TheVariants.{SnpOnce}
@@ -22,7 +21,7 @@ use Rattle.chi_observer.specs.Worlds.{all_below, home_may, is_overwritten, put}
 use Rattle.chi_observer.specs.Observed.{Observed, fits, goes, is_beside, next_home, takes_home}
 use Rattle.chi_observer.specs.Moments.{has_moment, is_moment, may_be_dirty, may_be_stored, shown_after, tells_of, waits_after}
 use Rattle.chi_observer.specs.Lines.{Watched, is_taken, watch}
-use Rattle.chi_observer.specs.Begun.{Beginning, begun_after, certainty_given, due_kept, due_supposed, forgotten, grant_shows_older, is_left_over, kept, kept_in, known_kept, leaves_alone, left_over, mark_behind, marks_beside, receiver, stands, supposed_in, supposed_of, takes_begun, told_kept, told_supposed, words_behind}
+use Rattle.chi_observer.specs.Begun.{Beginning, begun_after, certainty_given, due_kept, due_supposed, forgotten, grant_shows_older, is_left_over, kept, kept_in, known_kept, leaves_alone, left_over, mark_behind, marks_beside, receiver, supposed_in, supposed_of, takes_begun, told_kept, told_supposed, words_behind}
 use Rattle.chi_observer.proofs.Finite.{no, left, right, both, implies, follow}
 use Rattle.chi_observer.proofs.Facts.{and_false, flip, implied, same_truth, same_truth_is, turned}
 use Rattle.chi_observer.proofs.Put.{alike, differ, here, there, split, unlike}

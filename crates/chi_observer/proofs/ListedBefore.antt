@@ -17,7 +17,7 @@ use Rattle.chi_observer.specs.Worlds.{World, Sends, put}
 use Rattle.chi_observer.specs.Observed.{Observed, Sound, Meaning}
 use Rattle.chi_observer.specs.Listed.{may_be_empty}
 use Rattle.chi_observer.proofs.Finite.{no, left, right, both, implies, follow}
-use Rattle.chi_observer.proofs.Spots.{if_some, all_due_copies, each_due_copy}
+use Rattle.chi_observer.proofs.Spots.{if_some, DueCopies, each_due_copy}
 use Rattle.chi_observer.proofs.Facts.{one_of, other_of, or_there, of_form, same_is, sent_whole, taken_well, forward, below, beside_unique, beside_writing}
 use Rattle.chi_observer.proofs.Put.{here, there, split}
 use Rattle.chi_observer.proofs.ListedWords.{all_unstored, revalue}
@@ -133,9 +133,9 @@ resent o f w w' sound low m send silent any u = resent_here o f w w' sound low m
 empty_table : Due → Known → Held → Bool
 empty_table d t s = implies (may_be_empty t.told && reach AllListed d t s) (reach AllListed d t (of_form UniqueEmpty s))
 
-empty_holds : all_due_copies empty_table ≡ true
+empty_holds : DueCopies empty_table
 unfolding empty_table
-empty_holds = refl
+empty_holds k = refl
 
 empty_reach : (z : Stores) (d : Due) (t : Known) (s : Held) → z ≡ AllListed → may_be_empty t.told ≡ true → reach z d t s ≡ true → reach z d t (of_form UniqueEmpty s) ≡ true
 unfolding empty_table

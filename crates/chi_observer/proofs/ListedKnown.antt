@@ -17,7 +17,7 @@ use Rattle.chi_observer.specs.Tables.{Known, most, strongest, fits_told, renews,
 use Rattle.chi_observer.specs.Worlds.{home_may, put}
 use Rattle.chi_observer.specs.Observed.{Observed, Sound, takes, differs, next, takes_home, next_home}
 use Rattle.chi_observer.proofs.Finite.{no, left, right, both, implies, follow}
-use Rattle.chi_observer.proofs.Spots.{all_plain, all_paired, Tried, known_spots, each_known_spot, fits_can, all_gifts, told_gifts, each_told_gift}
+use Rattle.chi_observer.proofs.Spots.{all_plain, all_paired, Tried, known_spots, each_known_spot, fits_can, Gifts, told_gifts, each_told_gift}
 use Rattle.chi_observer.proofs.Facts.{turned, flip, same_is, other_of, or_here, or_there}
 use Rattle.chi_observer.proofs.Grants.{settled_alone}
 use Rattle.chi_observer.proofs.Copies.{gone_else}
@@ -102,9 +102,9 @@ known_kept o f listed take known c hn = bare_next o f listed take known c hn
 given_table : Grant → Due → Option Snoop → Known → Bool
 given_table g d q t = implies (settles g d || (not (shows_told g t) && (not (makes g d) && not (holds_data (most t))))) (not (holds_data (most (told_granted g d t))))
 
-given_holds : all_gifts (told_gifts given_table) ≡ true
+given_holds : Gifts (told_gifts given_table)
 unfolding given_table
-given_holds = refl
+given_holds x k = refl
 
 module _ (o : Observed) (g : HomeFlit) (sound : Sound o) (low : g.agent.0 < 32) (take : takes_home o g ≡ true) (known : HomeKnown o) (c : (next_home o g).current ≡ true) (hn : (next_home o g).home ≡ None) where
   abbrev at : ℕ

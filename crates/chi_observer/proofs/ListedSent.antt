@@ -17,7 +17,7 @@ use Rattle.chi_observer.specs.Observed.{Observed, Sound, next}
 use Rattle.chi_observer.specs.ListedLaws.{ListedFlitsAreTaken, ListedFlitsLead}
 use Rattle.chi_observer.specs.Listed.{Listed, MeaningWords, SendsWord, Words, agree, all_words, fits_known, fits_load, has_stored, is_placed, known_words, may_be_empty, next_listed, no_words, takes_listed, words_by}
 use Rattle.chi_observer.proofs.Finite.{no, left, right, both, implies, follow}
-use Rattle.chi_observer.proofs.Spots.{all_due_copies, each_due_copy, if_some}
+use Rattle.chi_observer.proofs.Spots.{DueCopies, each_due_copy, if_some}
 use Rattle.chi_observer.proofs.Facts.{and_false, flip, load_holds_data, or_here, or_there, other_of, sent_data}
 use Rattle.chi_observer.proofs.Words.{any_word}
 use Rattle.chi_observer.proofs.Copies.{each_below}
@@ -68,10 +68,10 @@ store_unique other x d s s' h e = no h
 full_table : Stores → Due → Known → Held → Bool
 full_table mode d t s = implies (reach mode d t s && (is_unique s.copy && not (may_be_empty t.told))) (holds_data s.copy)
 
-full_holds : (mode : Stores) → all_due_copies (full_table mode) ≡ true
+full_holds : (mode : Stores) → DueCopies (full_table mode)
 unfolding full_table
-full_holds Hidden = refl
-full_holds AllListed = refl
+full_holds Hidden k = refl
+full_holds AllListed k = refl
 
 pub full_copy : (mode : Stores) (d : Due) (t : Known) (s : Held) → reach mode d t s ≡ true → is_unique s.copy ≡ true → may_be_empty t.told ≡ false → holds_data s.copy ≡ true
 unfolding full_table

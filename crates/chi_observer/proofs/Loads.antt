@@ -14,7 +14,7 @@ use Rattle.chi_observer.specs.Tables.{Known, reach, fresh, told_after, fits_told
 use Rattle.chi_observer.specs.Worlds.{World, Sends}
 use Rattle.chi_observer.specs.Observed.{Observed, Unstored, Meaning, takes, differs, next}
 use Rattle.chi_observer.proofs.Finite.{no, left, right, both, implies, follow}
-use Rattle.chi_observer.proofs.Spots.{all_due_copies, each_due_copy}
+use Rattle.chi_observer.proofs.Spots.{DueCopies, each_due_copy}
 use Rattle.chi_observer.proofs.Facts.{data_looks, same_truth, same_truth_is}
 use Rattle.chi_observer.proofs.Put.{everywhere, at_it, at_else, split}
 
@@ -38,10 +38,10 @@ load_acts other x d s h e = no h
 load_table : Stores → Word → Bool → Due → Known → Held → Bool
 load_table mode word b d t s = implies (fits_told mode (Load word) b d t && (reach mode d (told_after (Load word) d t b) s && holds_data s.copy)) (reach mode d t s && (implies (renews mode (Load word) b d t) (fresh mode d t s) && same_truth (fresh mode d t s) (fresh mode d (told_after (Load word) d t b) s)))
 
-load_holds : (mode : Stores) (word : Word) (b : Bool) → all_due_copies (load_table mode word b) ≡ true
+load_holds : (mode : Stores) (word : Word) (b : Bool) → DueCopies (load_table mode word b)
 unfolding load_table
-load_holds Hidden word b = refl
-load_holds Listed word b = refl
+load_holds Hidden word b k = refl
+load_holds Listed word b k = refl
 
 load_back : (mode : Stores) (a : Act) (x b : Bool) (d : Due) (t : Known) (s : Held) → looks a ≡ true → (fits_told mode a x d t && (reach mode (due_after a d) (told_after a d t b) s && holds_data s.copy)) ≡ true
     → (reach mode d t s && (implies (renews mode a x d t) (fresh mode d t s) && same_truth (fresh mode d t s) (fresh mode (due_after a d) (told_after a d t b) s))) ≡ true

@@ -18,7 +18,7 @@ use Rattle.chi_observer.specs.Observed.{Observed, Unstored, Meaning, next, next_
 use Rattle.chi_observer.specs.Moments.{is_issue, tells_of, may_be_dirty, none_dirty, home_is_last, is_moment}
 use Rattle.chi_observer.specs.Runs.{public_of, Behind, seen, waits_by, shown_by, NoneDirty, HomeIsLast, IsMoment, HasMoment, Accepted}
 use Rattle.chi_observer.proofs.Finite.{no, left, right, both, implies, follow}
-use Rattle.chi_observer.proofs.Spots.{all_due_copies, each_due_copy}
+use Rattle.chi_observer.proofs.Spots.{DueCopies, each_due_copy}
 use Rattle.chi_observer.proofs.Facts.{turned, flip, unstored_clean, or_here, or_there, top_copy, reach_self, is_settled}
 use Rattle.chi_observer.proofs.Words.{or_words, others_differ, be_true}
 use Rattle.chi_observer.proofs.Put.{here, there, split, differ, unlike, alike}
@@ -52,17 +52,17 @@ not_true false h = refl
 quiet_table : Stores → Due → Known → Held → Bool
 quiet_table mode d t s = implies (reach mode d t s && not (may_be_dirty mode d t false)) (not (is_dirty s.copy))
 
-quiet_holds : (mode : Stores) → all_due_copies (quiet_table mode) ≡ true
+quiet_holds : (mode : Stores) → DueCopies (quiet_table mode)
 unfolding quiet_table
-quiet_holds Hidden = refl
-quiet_holds Listed = refl
+quiet_holds Hidden k = refl
+quiet_holds Listed k = refl
 
 told_table : Due → Known → Held → Bool
 told_table d t s = implies (may t.told s.copy && not (is_dirty (most t))) (not (is_dirty s.copy))
 
-told_holds : all_due_copies told_table ≡ true
+told_holds : DueCopies told_table
 unfolding told_table
-told_holds = refl
+told_holds k = refl
 
 -- b: right behind the flit it is as it is told
 clean_by : (mode : Stores) (b : Bool) (d : Due) (t : Known) (s : Held) → reach mode d t s ≡ true → (b ≡ true → may t.told s.copy ≡ true) → not (may_be_dirty mode d t b) ≡ true → is_dirty s.copy ≡ false
@@ -78,10 +78,10 @@ not_stored false b h = h
 surely_table : Stores → Due → Known → Held → Bool
 surely_table mode d t s = implies (is_dirty (most t) && reach mode d t s) (is_dirty s.copy)
 
-surely_holds : (mode : Stores) → all_due_copies (surely_table mode) ≡ true
+surely_holds : (mode : Stores) → DueCopies (surely_table mode)
 unfolding surely_table
-surely_holds Hidden = refl
-surely_holds Listed = refl
+surely_holds Hidden k = refl
+surely_holds Listed k = refl
 
 told_dirty : (mode : Stores) (d : Due) (t : Known) (s : Held) → is_dirty (most t) ≡ true → reach mode d t s ≡ true → is_dirty s.copy ≡ true
 unfolding surely_table
@@ -97,10 +97,10 @@ can_be_dirty mode d t = is_dirty (most t) || (hides_stores mode d && is_unique (
 dirty_table : Stores → Due → Known → Held → Bool
 dirty_table mode d t s = implies (can_be_dirty mode d t) (reach mode d t (dirty_top d t) && is_dirty (dirty_top d t).copy)
 
-dirty_holds : (mode : Stores) → all_due_copies (dirty_table mode) ≡ true
+dirty_holds : (mode : Stores) → DueCopies (dirty_table mode)
 unfolding dirty_table
-dirty_holds Hidden = refl
-dirty_holds Listed = refl
+dirty_holds Hidden k = refl
+dirty_holds Listed k = refl
 
 dirty_found : (mode : Stores) (d : Due) (t : Known) → can_be_dirty mode d t ≡ true → (reach mode d t (dirty_top d t) && is_dirty (dirty_top d t).copy) ≡ true
 unfolding dirty_table
@@ -109,9 +109,9 @@ dirty_found mode d t = follow (can_be_dirty mode d t) _ (each_due_copy (dirty_ta
 settled_table : Due → Known → Held → Bool
 settled_table d t s = implies (is_dirty (most t)) (is_settled d t (dirty_top d t))
 
-settled_holds : all_due_copies settled_table ≡ true
+settled_holds : DueCopies settled_table
 unfolding settled_table
-settled_holds = refl
+settled_holds k = refl
 
 dirty_settled : (d : Due) (t : Known) → is_dirty (most t) ≡ true → is_settled d t (dirty_top d t) ≡ true
 unfolding settled_table

@@ -26,7 +26,7 @@ use Rattle.chi_observer.specs.Moments.{may_be_dirty, may_be_stored}
 use Rattle.chi_observer.specs.Begun.{act_due, act_left_over, asks, certainty_sent, is_told, may_tell_stored, sender, supposed_of, told_kept}
 use Rattle.chi_observer.proofs.Finite.{no, left, right, both, implies, follow, all_bools, each_bool, all_tolds, each_told}
 use Rattle.chi_observer.proofs.Facts.{same_truth, same_truth_is}
-use Rattle.chi_observer.proofs.Spots.{can_be, fits_can, Tried, all_plain, all_paired, known_spots, each_known_spot, told_spots, each_told_spot, all_gifts, told_gifts, each_told_gift}
+use Rattle.chi_observer.proofs.Spots.{can_be, fits_can, Tried, all_plain, all_paired, known_spots, each_known_spot, told_spots, each_told_spot, Gifts, by_kind, told_gifts, each_told_gift}
 
 -- TWO THAT ARE TOLD ALIKE
 abbrev pub same_told : Told → Told → Bool
@@ -212,9 +212,9 @@ cancel_stays z a x d t differ f h = follow (t.cancelled && not (is_request a)) _
 held_gift : Grant → Due → Option Snoop → Known → Bool
 held_gift g d q t = implies (holds_by (is_open_clean d) d t) (holds_by (is_open_clean (due_granted g d)) (due_granted g d) (told_granted g d t))
 
-held_given : all_gifts (told_gifts held_gift) ≡ true
+held_given : Gifts (told_gifts held_gift)
 unfolding held_gift
-held_given = refl
+held_given = by_kind (told_gifts held_gift) (λ x. refl)
 
 pub holds_given : (g : Grant) (d : Due) (q : Option Snoop) (t : Known) → is_due g d q ≡ true → holds_by (is_open_clean d) d t ≡ true → holds_by (is_open_clean (due_granted g d)) (due_granted g d) (told_granted g d t) ≡ true
 unfolding held_gift

@@ -22,7 +22,7 @@ use Rattle.chi_observer.specs.Observed.{Observed}
 use Rattle.chi_observer.specs.Moments.{is_issue}
 use Rattle.chi_observer.specs.Runs.{public_of, seen, shown_by, After, HomeIsLast, HasMoment, IsMoment, WasValue, ReadOnceShowsValue, Accepted}
 use Rattle.chi_observer.proofs.Finite.{no, left, right, both, implies, follow, all_kinds, each_kind, all_grants, each_grant, all_dues, each_due}
-use Rattle.chi_observer.proofs.Spots.{all_gifts, each_due_gift}
+use Rattle.chi_observer.proofs.Spots.{Gifts, each_due_gift}
 use Rattle.chi_observer.proofs.Facts.{or_here}
 use Rattle.chi_observer.proofs.Put.{here, there, alike, split}
 use Rattle.chi_observer.proofs.Cache.{told_here}
@@ -124,9 +124,9 @@ home_value mode (Down g ∷ es) a n r m w h = down_value mode es g n r w h (λ r
 timed_table : Grant → Due → Option Snoop → Bool
 timed_table g d q = implies (gives_data g && reads_once d) (needs_moment g d && not (gives_copy g))
 
-timed_holds : all_gifts timed_table ≡ true
+timed_holds : Gifts timed_table
 unfolding timed_table
-timed_holds = refl
+timed_holds x k = refl
 
 timed : (g : Grant) (d : Due) (q : Option Snoop) → is_due g d q ≡ true → (gives_data g && reads_once d) ≡ true → (needs_moment g d && not (gives_copy g)) ≡ true
 unfolding timed_table
