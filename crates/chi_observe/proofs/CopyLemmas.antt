@@ -1,10 +1,10 @@
 -- A copy of a table of lines has the lines.
-use Rattle.std.proofs.Common.{◌≡◌, ℕ, Bool, true, false, List, [], ◌∷◌, Option, Some, None, cond, refl, sym, ap, ◌∙◌}
+use Rattle.std.proofs.Common.{◌≡◌, ℕ, Bool, true, false, List, [], ◌∷◌, Some, cond, refl, ap, ◌∙◌}
 use Rattle.std.specs.List.{AllZip}
 use Rattle.std.specs.Map.{lookup}
 use Rattle.std.specs.Prelude.{nat_eq, option_map}
 use Rattle.chi_observe.specs.declared.lines.LineSeen.{LineSeen}
-use Rattle.chi_observe.specs.Lines.{LineState, line_state, lines_in}
+use Rattle.chi_observe.specs.Lines.{line_state, lines_in}
 
 same_line : {A : Type 0} (l : ℕ) (xs ys : List (ℕ × LineSeen A)) → AllZip (λ p q. (q.0 ≡ p.0) × (line_state q.1 ≡ line_state p.1)) xs ys → lines_in ys l ≡ lines_in xs l
 same_line l [] [] h = refl

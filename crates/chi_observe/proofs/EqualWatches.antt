@@ -6,7 +6,7 @@ use Rattle.std.proofs.lemmas.List.{get_or_past}
 use Rattle.std.specs.Bool.{Decides}
 use Rattle.std.specs.List.{slice_index_or}
 use Rattle.std.specs.Prelude.{nat_eq, nat_lt}
-use Rattle.chi_observer.specs.Arrivals.{Arrived, arrived, arriving_of}
+use Rattle.chi_observer.specs.Arrivals.{arrived, arriving_of}
 use Rattle.chi_observer.specs.Arriving.{nobody_arriving}
 use Rattle.chi_observer.specs.Begun.{begun, mark_of, unmarked}
 use Rattle.chi_observer.specs.Lines.{agent_of, known_of, nobody, shown_of, watched as told_of}

@@ -1,5 +1,5 @@
 -- The flits of each line of memory that were taken last (docs/OBSERVER.md, "What is printed").
-use Rattle.std.specs.Prelude.{ℕ, ◌++◌, List, [], ◌∷◌, Option, Some, None, if◌then◌else◌, drop, length, nat_eq, nat_lt, option_map, unwrap_or}
+use Rattle.std.specs.Prelude.{ℕ, ◌++◌, List, [], ◌∷◌, if◌then◌else◌, drop, length, nat_eq, nat_lt, option_map, unwrap_or}
 use Rattle.std.specs.Map.{lookup}
 use Rattle.chi_trace.specs.declared.any_flits.AnySeen.{AnySeen}
 use Rattle.chi_observer.specs.Worlds.{put}

@@ -1,5 +1,5 @@
 -- What each flit does to ids and credits, or why they don't allow it (docs/OBSERVER.md, "Ids and credits").
-use Rattle.std.specs.Prelude.{ℕ, ◌==◌, Bool, true, false, List, Option, Some, None, Result, Ok, Err, if◌then◌else◌, ok_or, option_map}
+use Rattle.std.specs.Prelude.{ℕ, Bool, true, false, List, Option, Some, None, Result, Ok, Err, if◌then◌else◌, ok_or, option_map}
 use Rattle.chi_observer.specs.declared.kinds.Kind.{Kind}
 use Rattle.chi_observer.specs.declared.kinds.Snoop.{Snoop}
 use Rattle.chi_trace.specs.declared.fields.DbId.{DbId}

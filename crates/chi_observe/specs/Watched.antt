@@ -1,5 +1,5 @@
 -- A watch over a trace: what its flits have told, and which flits it takes (docs/OBSERVER.md, "A trace of many lines").
-use Rattle.std.specs.Prelude.{◌≡◌, ℕ, ◌+◌, ◌||◌, Bool, true, false, not, List, [], Option, Some, None, Result, Ok, Err, if◌then◌else◌, is_none, replicate, unwrap_or}
+use Rattle.std.specs.Prelude.{◌≡◌, ℕ, ◌+◌, Bool, true, false, not, List, [], Option, Some, None, Result, Ok, Err, if◌then◌else◌, is_none, replicate, unwrap_or}
 use Rattle.chi_flit.specs.declared.numbers.Agent.{Agent}
 use Rattle.chi_trace.specs.declared.fields.NodeId.{NodeId}
 use Rattle.chi_observer.specs.declared.observer.Reason.TheVariants.{NotSent}

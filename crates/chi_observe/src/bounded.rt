@@ -180,10 +180,10 @@ impl<A: Allocator + Copy> Watch<A> {
     {
         let requesters = Vec::with_capacity(alloc, room.requesters)?;
         let homes = Vec::with_capacity(alloc, room.homes)?;
-        let ids = ids_with(alloc, room.ids)?;
-        let accounts = accounts_with(alloc, room.accounts)?;
-        let lines = lines_with(alloc, room.lines)?;
         let spare = marks_with(alloc, room.lines, room.requesters)?;
+        let accounts = accounts_with(alloc, room.accounts)?;
+        let ids = ids_with(alloc, room.ids)?;
+        let lines = lines_with(alloc, room.lines)?;
         Ok(Watch {
             options,
             requesters,

@@ -103,11 +103,11 @@ impl<A: Allocator + Copy> Watch<A> {
     {
         let requesters = nodes_copy(alloc, &self.requesters, room.requesters)?;
         let homes = nodes_copy(alloc, &self.homes, room.homes)?;
-        let ids = ids_copy(&self.ids, room.ids)?;
-        let accounts = accounts_copy(&self.accounts, room.accounts)?;
-        let lines = lines_copy(&self.lines, room.lines)?;
         let spare = marks_with(alloc, self.spare.len(), room.requesters)?;
+        let accounts = accounts_copy(&self.accounts, room.accounts)?;
+        let ids = ids_copy(&self.ids, room.ids)?;
         let named = ids_copy(&self.named, 0)?;
+        let lines = lines_copy(&self.lines, room.lines)?;
         Ok(Watch {
             options: self.options,
             requesters,

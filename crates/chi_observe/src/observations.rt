@@ -4,6 +4,7 @@ ghost use Rattle.std.specs.Prelude.{◌≡◌, ◌≢◌, ◌+◌, ◌^◌, ◌<
 ghost use Rattle.std.specs.Io.KnownBytes.{Keeps};
 ghost use Rattle.chi_script.specs.Devices.{AppendsFront, CountsFault};
 ghost use Rattle.chi_observe.specs.Reports.{AtFailedWrite, IsObserved, IsReportFront, IsReportWritten, IsUnreported, is_malformed};
+ghost use Rattle.chi_observe.specs.Watched.{nothing_watched, watched};
 
 use crate::progress::Progress;
 use crate::reports::{ObserveOutcome, ObserveReport};
@@ -12,6 +13,29 @@ use crate::stream::{Notes, watch_input};
 use crate::watch::Watch;
 use chi_script::{Failed, Fault, Input, Output};
 use std::alloc::Allocator;
+
+/// The report on the trace that the input has, by a watch that has seen nothing; `Read` where reading it failed.
+fn report_by<A: Allocator + Copy, I: Input, P: Progress>(
+    watch: &mut Watch<A>,
+    notes: &mut Notes<A>,
+    alloc: A,
+    input: &mut I,
+    complete: bool,
+    progress: &mut P,
+) -> Result<ObserveReport<A>, Fault>
+    requires new { watched watch.old ≡ nothing_watched watch.old.options }
+    requires reads { I.failures input.old + 1 < 2 ^ 64 }
+    ensures told { IfOk result (λ report. IfSome (I.left input.old)
+        (λ file. IsObserved watch.old.options complete file report.outcome (string_bytes report.text))) }
+    ensures ok { OnOk result (I.failures input.new ≡ I.failures input.old) }
+    ensures err { IfErr result (CountsFault (I.failures input.old) (I.failures input.new)) }
+{
+    let stop = watch_input(alloc, input, watch, notes, progress)?;
+    match watch.report(alloc, complete, &stop, notes) {
+        Ok(report) => Ok(report),
+        Err(_) => Err(Fault::NoMemory),
+    }
+}
 
 /// The report on the trace that the input has; `Read` where reading it failed.
 fn report_on_input<A: Allocator + Copy, I: Input, P: Progress>(
@@ -30,11 +54,7 @@ fn report_on_input<A: Allocator + Copy, I: Input, P: Progress>(
 {
     let mut watch = Watch::new(alloc, options);
     let mut notes = Notes::new(alloc, context);
-    let stop = watch_input(alloc, input, &mut watch, &mut notes, progress)?;
-    match watch.report(alloc, complete, &stop, &notes) {
-        Ok(report) => Ok(report),
-        Err(_) => Err(Fault::NoMemory),
-    }
+    report_by(&mut watch, &mut notes, alloc, input, complete, progress)
 }
 
 /// Judges the trace that the input has, which is read in pieces, and writes the report on it; of a malformed trace nothing

@@ -2,7 +2,7 @@
 use Rattle.std.proofs.Common.{eq-eqb, rules, ◌≡◌, ◌==◌, true, false}
 use Rattle.chi_observe.specs.Judges.{before_of, judged}
 use Rattle.chi_observe.specs.Lines.{line_state}
-use Rattle.chi_observe.proofs.LineLemmas.{left_is, told_is}
+use Rattle.chi_observe.proofs.LineLemmas.{told_is}
 use Rattle.chi_observe.proofs.lines.LineSeen.take_flit.Goals as goal
 
 pub returns-in_ok-mark-in-Ok : goal.returns-in_ok-mark-in-Ok
