@@ -1,5 +1,5 @@
 -- Marks, lines and watches are the same where each part is.
-use Rattle.std.proofs.Common.{◌≡◌, ◌==◌, ◌&&◌, ℕ, Bool, ap, sym, ◌∙◌}
+use Rattle.std.proofs.Common.{rules, arith, ◌≡◌, ◌==◌, ◌&&◌, ℕ, Bool, ap, sym, ◌∙◌}
 use Rattle.std.specs.Bool.{Decides}
 use Rattle.std.proofs.lemmas.Bool.Decides.{Decides-and, Decides-eqb, Decides-like}
 use mathlib.Core.Bool.{beq}
@@ -16,6 +16,8 @@ use Rattle.chi_observe.specs.Lines.{LineState}
 use Rattle.chi_observe.specs.Marks.{Marked}
 use Rattle.chi_observe.specs.Watched.{Watched}
 use Rattle.chi_observe.specs.contracts.bounded.RoomPartialEq.TheImpl as room_eq
+use Rattle.chi_observe.specs.contracts.lines.LackingPartialEq.TheImpl as lacking_eq
+use Rattle.chi_observe.specs.declared.lines.Lacking.{Lacking}
 use Rattle.chi_observe.proofs.EqualFlits.{mark, node}
 use Rattle.chi_observe.proofs.EqualIds.{room}
 
@@ -71,12 +73,15 @@ marks_same a b r h =
     (Decides-and _ _ (Decides-and _ _ (Decides-eqb a.first b.first) (Decides-eqb a.words b.words)) h)
 
 -- lines
-pub line_same : (a b : LineState) (j m : Bool) → Decides j (a.told ≡ b.told) → Decides m (a.marks ≡ b.marks) → Decides ((((node_eq.eq-value.it a.home b.home && beq a.aside b.aside) && beq a.held b.held) && j) && m) (a ≡ b)
+lacking : (a b : Lacking) → Decides (lacking_eq.eq-value.it a b) (a ≡ b)
+lacking a b = search (rules, arith)
+
+pub line_same : (a b : LineState) (j m : Bool) → Decides j (a.told ≡ b.told) → Decides m (a.marks ≡ b.marks) → Decides ((((node_eq.eq-value.it a.home b.home && beq a.aside b.aside) && lacking_eq.eq-value.it a.lacking b.lacking) && j) && m) (a ≡ b)
 line_same a b j m told marks =
-    Decides-like ((((node_eq.eq-value.it a.home b.home && beq a.aside b.aside) && beq a.held b.held) && j) && m)
-    (λ e i. record { home = e.0.0.0.0 i; aside = e.0.0.0.1 i; held = e.0.0.1 i; told = e.0.1 i; marks = e.1 i })
-    (λ e. ((((ap (λ s. s.home) e, ap (λ s. s.aside) e), ap (λ s. s.held) e), ap (λ s. s.told) e), ap (λ s. s.marks) e))
-    (Decides-and _ _ (Decides-and _ _ (Decides-and _ _ (Decides-and _ _ (node a.home b.home) (mark a.aside b.aside)) (mark a.held b.held)) told) marks)
+    Decides-like ((((node_eq.eq-value.it a.home b.home && beq a.aside b.aside) && lacking_eq.eq-value.it a.lacking b.lacking) && j) && m)
+    (λ e i. record { home = e.0.0.0.0 i; aside = e.0.0.0.1 i; lacking = e.0.0.1 i; told = e.0.1 i; marks = e.1 i })
+    (λ e. ((((ap (λ s. s.home) e, ap (λ s. s.aside) e), ap (λ s. s.lacking) e), ap (λ s. s.told) e), ap (λ s. s.marks) e))
+    (Decides-and _ _ (Decides-and _ _ (Decides-and _ _ (Decides-and _ _ (node a.home b.home) (mark a.aside b.aside)) (lacking a.lacking b.lacking)) told) marks)
 
 -- what is said of two things says it of what is the same as they
 pub moved : {X : Type 0} (a a' b b' : X) (r : Bool) → a ≡ a' → b ≡ b' → Decides r (a ≡ b) → Decides r (a' ≡ b')

@@ -1,6 +1,6 @@
 -- Data that come in beats (docs/OBSERVER.md, "A trace of many lines").
-use Rattle.std.specs.Prelude.{ℕ, ◌&&◌, ◌||◌, Bool, true, false, not, List, [], ◌∷◌, Option, Some, None, Result, Ok, Err, if◌then◌else◌, replicate, unwrap_or}
-use Rattle.std.specs.List.{list_any, slice_index_or}
+use Rattle.std.specs.Prelude.{ℕ, ◌&&◌, ◌||◌, Bool, true, not, List, [], ◌∷◌, Option, Some, None, Result, Ok, Err, if◌then◌else◌, replicate, unwrap_or}
+use Rattle.std.specs.List.{list_any}
 use Rattle.chi_observe.specs.declared.ids.CacheLine.{CacheLine}
 use Rattle.chi_observe.specs.declared.ids.IdKey.{IdKey}
 use Rattle.chi_observe.specs.declared.ids.OpenId.{OpenId}
@@ -9,7 +9,7 @@ use Rattle.chi_observe.specs.declared.reasons.IdReason.TheVariants.{WordAgain}
 use Rattle.chi_observe.specs.declared.events.Tells.{Tells}
 use Rattle.chi_observe.specs.declared.tables.Change.{Change}
 use Rattle.chi_observe.specs.declared.tables.Part.TheVariants as parts
-use Rattle.chi_observe.specs.Events.{with_words, words_of}
+use Rattle.chi_observe.specs.Events.{with_words, word_at, words_of, words_with}
 use Rattle.chi_observe.specs.Ids.{is_unknown}
 use Rattle.chi_observe.specs.Reasons.{◌>>=◌}
 use Rattle.chi_observe.specs.Tables.{Table, plain_change, named}
@@ -17,9 +17,6 @@ use Rattle.chi_observe.specs.Tables.{Table, plain_change, named}
 -- Data comes in beats, each with words that lack yet; its id is open until no word lacks.
 abbrev pub is_word_again : Bool → Bool → Bool
 is_word_again lacks there = there && not lacks
-
-abbrev pub word_at : List Bool → ℕ → Bool
-word_at words n = slice_index_or words n false
 
 abbrev pub again_at : List Bool → List Bool → ℕ → Bool
 again_at lacks there n = is_word_again (word_at lacks n) (word_at there n)
@@ -43,17 +40,6 @@ left_of lacks there =
 abbrev pub lacks_some : List Bool → Bool
 lacks_some left = list_any (λ lacks. lacks) left
 
-abbrev pub word_with : ℕ → ℕ → Bool → ℕ
-word_with old new there = if there then new else old
-
-abbrev pub word_behind : List ℕ → List ℕ → List Bool → ℕ → ℕ
-word_behind old new there n = word_with (slice_index_or old n 0) (slice_index_or new n 0) (word_at there n)
-
-abbrev pub words_with : List ℕ → List ℕ → List Bool → List ℕ
-words_with old new there =
-    word_behind old new there 0 ∷ word_behind old new there 1 ∷ word_behind old new there 2 ∷ word_behind old new there 3
-    ∷ word_behind old new there 4 ∷ word_behind old new there 5 ∷ word_behind old new there 6 ∷ word_behind old new there 7 ∷ []
-
 -- what it tells has the form of its first beat
 abbrev pub told_with : Tells → Tells → List Bool → Tells
 told_with begun beat there = with_words begun (words_with (words_of begun) (words_of beat) there)
@@ -63,7 +49,7 @@ kept_with found left tells = record found { lacks = Some left; begun = Some tell
 
 abbrev pub first_beat : OpenId → List Bool → Tells → Change
 first_beat found left tells =
-    if lacks_some left then record (plain_change found.line) { keeps = Some (kept_with found left tells); part = parts.First }
+    if lacks_some left then record (plain_change found.line) { keeps = Some (kept_with found left tells); part = parts.First left }
     else record (plain_change found.line) { frees = Some found.key }
 
 abbrev pub later_beat : OpenId → List Bool → Tells → Change

@@ -1,7 +1,7 @@
 -- What judges the flits of a line: from the trace's beginning, where all stores are listed by its words too
 -- (docs/OBSERVER.md, "Stores that are listed"), from the middle of a longer one (docs/OBSERVER.md, "A trace that begins in
 -- the middle"), or where the home receives them (docs/OBSERVER.md, "Seen at the home").
-use Rattle.std.specs.Prelude.{ℕ, zero, suc, Bool, true, false, not, List, Result, Ok, Err, nat_lt, if◌then◌else◌}
+use Rattle.std.specs.Prelude.{ℕ, zero, suc, Bool, true, false, not, List, Some, Result, Ok, Err, nat_lt, if◌then◌else◌}
 use Rattle.std.specs.List.{slice_index_or}
 use Rattle.chi_observer.specs.declared.flits.Flit.{Flit}
 use Rattle.chi_observer.specs.declared.flits.Stores.{Stores}
@@ -15,6 +15,9 @@ use Rattle.chi_observer.specs.Begun.{Beginning, begun, begun_after, forgetting, 
 use Rattle.chi_observer.specs.Arrivals.{Arrived, Outcome, arrived, is_untaken, nothing_arrived, outcome}
 use Rattle.chi_observer.specs.Arrivals.Outcome.{Taken, NotTaken, LeftOpen as LeftAtHome}
 use Rattle.chi_observer.specs.Arriving.{holds_none}
+use Rattle.chi_observer.specs.Wanted.{wanted}
+use Rattle.chi_observer.specs.declared.wanted.Wanted.{Wanted}
+use Rattle.chi_observer.specs.declared.wanted.Wanted.TheVariants as wants
 use Rattle.chi_observe.specs.declared.judges.Before.{Before as CodeBefore}
 use Rattle.chi_observe.specs.declared.judges.BegunLine.{BegunLine}
 use Rattle.chi_observe.specs.declared.judges.Judge.{Judge}
@@ -131,6 +134,25 @@ told_in (FromStart w) = w
 told_in (FromListed l) = l.line
 told_in (FromMiddle b synced) = b.seen
 told_in (AtHome a) = a.line
+
+-- what the words of data have to be that come in beats, where the line is told of them at their first one: where all stores
+-- are listed, of those that have to be known
+abbrev pub only_known : Wanted → Wanted
+only_known wants.Known = wants.Known
+only_known other = wants.Nothing
+
+abbrev pub wanted_in : Judged → Flit → Wanted
+wanted_in (FromStart w) flit = wanted w flit
+wanted_in (FromListed l) flit = only_known (wanted l.line flit)
+wanted_in told flit = wants.Nothing
+
+-- the home has these words
+abbrev pub with_home : List ℕ → Watched → Watched
+with_home words w = record w { seen = record w.seen { home = Some words } }
+
+abbrev pub worded : List ℕ → Judged → Judged
+worded words (FromStart w) = FromStart (with_home words w)
+worded words told = told
 
 -- a request of the agent came that isn't told yet
 abbrev pub holds : Judged → ℕ → Bool

@@ -114,7 +114,7 @@ opened_by table found dbid change = new_buffer table found dbid >>= λ opens. Ok
 
 abbrev pub opening : Table → OpenId → Option DbId → Change → Part → Result Change IdReason
 opening table found dbid change parts.Whole = opened_by table found dbid change
-opening table found dbid change parts.First = opened_by table found dbid change
+opening table found dbid change (parts.First left) = opened_by table found dbid change
 opening table found dbid change parts.Further = Ok change
 opening table found dbid change (parts.Last tells) = Ok change
 

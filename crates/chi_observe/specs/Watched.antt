@@ -119,7 +119,7 @@ counts_aside (Some mark) n = record n { aside = n.aside + 1; first_aside = Some 
 
 abbrev pub counts_after : Part → Option Aside → Bool → Counts → Counts
 counts_after parts.Whole aside fresh n = counts_aside aside (counts_first fresh n)
-counts_after parts.First aside fresh n = counts_aside aside (counts_first fresh n)
+counts_after (parts.First left) aside fresh n = counts_aside aside (counts_first fresh n)
 counts_after parts.Further aside fresh n = counts_aside aside n
 counts_after (parts.Last tells) aside fresh n = counts_aside aside n
 
@@ -149,7 +149,7 @@ told_after w e change = if takes_line (before_in w) (state_at (before_in w) w.li
 
 abbrev pub by_part : Watched → LineEvent → Change → Part → Option Watched
 by_part w e change parts.Whole = told_after w e change
-by_part w e change parts.First = told_after w e change
+by_part w e change (parts.First left) = told_after w e change
 by_part w e change parts.Further = Some (beat_after w e change)
 by_part w e change (parts.Last tells) = told_after w e change
 

@@ -1,7 +1,8 @@
 //! Data that come in beats.
 
 ghost use Rattle.std.specs.Prelude.{◌≡◌};
-ghost use Rattle.chi_observe.specs.Beats.{beat_of, first_beat, is_again, is_word_again, kept_with, lacking, lacks_some, later_beat, left_of, told_with, word_with, words_with};
+ghost use Rattle.chi_observe.specs.Beats.{beat_of, first_beat, is_again, is_word_again, kept_with, lacking, lacks_some, later_beat, left_of, told_with};
+ghost use Rattle.chi_observe.specs.Events.{word_with, words_with};
 ghost use Rattle.chi_observe.specs.Tables.{table_of};
 
 use crate::events::Tells;
@@ -71,7 +72,7 @@ fn word_with(old: u64, new: u64, there: bool) -> u64
 }
 
 /// The words of data behind a beat.
-fn words_with(old: &Data, new: &Data, there: &[bool; 8]) -> Data
+pub(crate) fn words_with(old: &Data, new: &Data, there: &[bool; 8]) -> Data
     ensures { result ≡ words_with old.now new.now there.now }
 {
     [
@@ -112,7 +113,7 @@ fn first_beat(found: &OpenId, left: [bool; 8], tells: Tells) -> Change
     if lacks_some(&left) {
         Change {
             keeps: Some(kept_with(found, left, tells)),
-            part: Part::First,
+            part: Part::First(left),
             ..change
         }
     } else {

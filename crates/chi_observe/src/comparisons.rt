@@ -246,9 +246,9 @@ impl<A: Allocator> LineSeen<A> {
     {
         let home = self.home == other.home;
         let aside = self.aside == other.aside;
-        let held = self.held == other.held;
+        let lacking = self.lacking == other.lacking;
         let judge = self.judge.equals(&other.judge);
-        home & aside & held & judge & self.marks.equals(&other.marks)
+        home & aside & lacking & judge & self.marks.equals(&other.marks)
     }
 }
 

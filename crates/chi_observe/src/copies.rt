@@ -43,7 +43,7 @@ impl<A: Allocator + Copy> Clone for LineSeen<A> {
             home: self.home,
             aside: self.aside,
             why: self.why,
-            held: self.held,
+            lacking: self.lacking,
             judge,
             marks,
         })

@@ -1,10 +1,11 @@
 //! What a flit of a trace is to a watch.
 
 ghost use Rattle.std.specs.Prelude.{◌≡◌};
-ghost use Rattle.chi_observe.specs.Events.{begun_by, flit_by, judged, news_of, with_words, words_of};
+ghost use Rattle.chi_observe.specs.Events.{begun_by, ended_by, flit_by, judged, news_of, with_words, words_of};
 
 use crate::ids::{CacheLine, Sides};
 use crate::lines::LineNews;
+use crate::marks::shows_some;
 use crate::steps::IdStep;
 use crate::tables::Part;
 use chi_flit::{Agent, Data, NO_DATA};
@@ -112,19 +113,42 @@ pub(crate) fn news_of(tells: Tells, part: Part, agent: Option<Agent>) -> LineNew
     ensures { result ≡ news_of tells part agent }
 {
     match part {
-        Part::Last(told) => LineNews::Ended(flit_by(told, agent)),
-        Part::First => begun_by(flit_by(tells, agent)),
+        Part::Last(told) => ended_by(flit_by(told, agent)),
+        Part::First(lacks) => begun_by(flit_by(tells, agent), lacks),
         Part::Whole | Part::Further => LineNews::Flit(flit_by(tells, agent)),
     }
 }
 
-/// The first beat of data that such a flit has; of data that aren't judged a flit that isn't.
-fn begun_by(flit: Option<Flit>) -> LineNews
-    ensures { result ≡ begun_by flit }
+/// The first beat of data that such a flit has, and lack these words; of data that aren't judged a flit that isn't, and of
+/// data without words of the line the flit.
+fn begun_by(flit: Option<Flit>, lacks: [bool; 8]) -> LineNews
+    ensures { result ≡ begun_by flit lacks }
 {
     match flit {
-        Some(_) => LineNews::Begun,
+        Some(flit) => {
+            if shows_some(flit) {
+                LineNews::Begun(flit, lacks)
+            } else {
+                LineNews::Flit(Some(flit))
+            }
+        }
         None => LineNews::Flit(None),
+    }
+}
+
+/// The last beat of such data; nothing of data without words of the line.
+fn ended_by(flit: Option<Flit>) -> LineNews
+    ensures { result ≡ ended_by flit }
+{
+    match flit {
+        Some(flit) => {
+            if shows_some(flit) {
+                LineNews::Ended(Some(flit))
+            } else {
+                LineNews::Nothing
+            }
+        }
+        None => LineNews::Ended(None),
     }
 }
 

@@ -6,13 +6,13 @@ ghost use Rattle.chi_observer.specs.Arriving.{holds_none};
 ghost use Rattle.chi_observer.specs.Begun.{begun};
 ghost use Rattle.chi_observer.specs.Lines.{watched};
 ghost use Rattle.chi_observer.specs.ListedLines.{listed_watched};
-ghost use Rattle.chi_observe.specs.Judges.{before_of, fault_of, holds, is_judge_fault, judged, line_judged, opened_from, opened_whole, told_in, verdict, verdict_of, wake, woken};
+ghost use Rattle.chi_observe.specs.Judges.{before_of, fault_of, holds, is_judge_fault, judged, line_judged, only_known, opened_from, opened_whole, told_in, verdict, verdict_of, wake, wanted_in, woken, worded};
 
 use crate::marks::teller_of;
-use chi_flit::Agent;
+use chi_flit::{Agent, Data};
 use chi_observer::{
     AGENTS, AgentSeen, Arrivals, Begun, Certainty, Due, Flit, Held, KnownWords, ListedObserver,
-    Observer, Reason, Stores, Told, Untaken,
+    Observer, Reason, Stores, Told, Untaken, Wanted,
 };
 use std::alloc::{AllocError, Allocator};
 
@@ -199,6 +199,17 @@ fn arrivals_copy(arrivals: &Arrivals) -> Arrivals
     }
 }
 
+/// The same, if the words have to be those that are known.
+fn only_known(wanted: Wanted) -> Wanted
+    ensures { result ≡ only_known wanted }
+{
+    match wanted {
+        Wanted::Known => Wanted::Known,
+        Wanted::Nothing => Wanted::Nothing,
+        Wanted::Any => Wanted::Nothing,
+    }
+}
+
 /// That of a line which no flit has touched, from the trace's beginning.
 fn whole<A: Allocator>(stores: Stores) -> Judge<A>
     ensures { judged result ≡ opened_whole stores }
@@ -306,6 +317,32 @@ impl<A: Allocator> Judge<A> {
     /// Whether something isn't known of the copies of the first agents, so many.
     pub(crate) fn is_unknown(&self, agents: usize) -> bool {
         (0..agents).any(|agent| !matches!(self.certainty(agent), Certainty::Told))
+    }
+
+    /// What the words of data have to be that come in beats; `Nothing` where the line is told of them at their last beat.
+    pub(crate) fn wanted(&self, flit: Flit) -> Wanted
+        ensures { result ≡ wanted_in (judged self.now) flit }
+    {
+        match self {
+            Judge::Whole(observer) => observer.wanted(flit),
+            Judge::Listed(observer) => only_known(observer.seen.wanted(flit)),
+            Judge::Begun(_) => Wanted::Nothing,
+            Judge::Home(_) => Wanted::Nothing,
+        }
+    }
+
+    /// The home has these words, where the line was told of their data before they had all come.
+    pub(crate) fn show(&mut self, words: Data)
+        ensures { judged self.new ≡ worded words (judged self.old) }
+    {
+        match self {
+            Judge::Whole(observer) => {
+                observer.home = Some(words);
+            }
+            Judge::Listed(_) => {}
+            Judge::Begun(_) => {}
+            Judge::Home(_) => {}
+        }
     }
 
     /// What flits have told.

@@ -1,6 +1,6 @@
 //! Which lines of a trace told what is known of a line of memory.
 
-ghost use Rattle.std.specs.Prelude.{◌≡◌, ◌<◌, OnOk, length};
+ghost use Rattle.std.specs.Prelude.{◌≡◌, ◌<◌, OnOk, is_some, length};
 ghost use Rattle.chi_observe.specs.Marks.{copies_in, is_known, marked, marks_after, nothing_marked, shows_known, shows_words, tells_copy, teller_of};
 ghost use Rattle.chi_observer.specs.Worlds.{put};
 
@@ -77,8 +77,15 @@ fn shown_by(flit: Flit) -> Option<Data>
     }
 }
 
+/// Whether a flit shows words.
+pub(crate) fn shows_some(flit: Flit) -> bool
+    ensures { result ≡ is_some (shows_words flit) }
+{
+    shown_by(flit).is_some()
+}
+
 /// Whether the words are known, and are these.
-fn is_known(known: &Option<Data>, shown: &Data) -> bool
+pub(crate) fn is_known(known: &Option<Data>, shown: &Data) -> bool
     ensures { result ≡ is_known known.now shown.now }
 {
     match known {

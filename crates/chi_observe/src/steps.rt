@@ -322,7 +322,7 @@ impl<A: Allocator> Tables<'_, A> {
         let change = self.beat(key, there, at, tells)?;
         match change.part {
             Part::Further | Part::Last(_) => Ok(change),
-            Part::Whole | Part::First => {
+            Part::Whole | Part::First(_) => {
                 let opens = self.new_buffer(&found, dbid)?;
                 Ok(Change { opens, ..change })
             }

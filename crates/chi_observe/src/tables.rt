@@ -20,8 +20,8 @@ use std::alloc::Allocator;
 pub(crate) enum Part {
     /// All, or the flit has none.
     Whole,
-    /// The first beat: other words lack.
-    First,
+    /// The first beat: these other words lack.
+    First([bool; 8]),
     /// A later one, behind which words lack.
     Further,
     /// The last one: what the data tell, with all words.

@@ -1,9 +1,10 @@
 //! Why a flit isn't taken, in words. No clause says these texts: they are tested.
 
+use crate::beats::words_with;
 use crate::events::{AccessEvent, Event, LineEvent, Tells, flit_by};
 use crate::ids::{CacheLine, IdKey, OpenId, find_id};
 use crate::judges::{Before, Judge};
-use crate::lines::{LineSeen, home_of};
+use crate::lines::{Lacking, LineSeen, home_of};
 use crate::marks::teller_of;
 use crate::names::{GIVEN, KeyName, LineName, NodeName, SENT, ToldName};
 use crate::nodes::agent_of;
@@ -163,6 +164,14 @@ fn write_next<A: Allocator>(text: &mut String<A>, first: &mut bool) -> Result<()
 }
 
 impl<A: Allocator> Known<'_, A> {
+    /// Whether data lack words that have to be the home's.
+    fn lacks_known_words(&self) -> bool {
+        match self.seen {
+            Some(seen) => matches!(seen.lacking, Lacking::Known(_)),
+            None => false,
+        }
+    }
+
     /// What was told of the copy of a node last, which is this agent.
     fn copy(&self, node: NodeId, agent: usize) -> CopyText {
         let told = match self.judge.observer().agents.get(agent) {
@@ -475,12 +484,24 @@ impl<A: Allocator> Watch<A> {
         }
     }
 
+    /// What data tell with the words that are known of the line in place of those that they lack.
+    fn filled(&self, tells: Tells, line: CacheLine, lacks: &[bool; 8]) -> Tells {
+        match self.lines.get(&line.0) {
+            Some(seen) => match &seen.judge.observer().home {
+                Some(home) => tells.with_words(words_with(&tells.words(), home, lacks)),
+                None => tells,
+            },
+            None => tells,
+        }
+    }
+
     /// What a flit tells its line: data that came in beats all their words.
     pub(crate) fn told_by(&self, event: &LineEvent) -> Tells {
         match self.allowed(event) {
             Ok(change) => match change.part {
                 Part::Last(told) => told,
-                Part::Whole | Part::First | Part::Further => event.tells,
+                Part::First(lacks) => self.filled(event.tells, change.line, &lacks),
+                Part::Whole | Part::Further => event.tells,
             },
             Err(_) => event.tells,
         }
@@ -544,6 +565,9 @@ impl<A: Allocator + Copy> Watch<A> {
             seen,
         };
         known.write_rule(text, flit, reason)?;
+        if known.lacks_known_words() && matches!(reason, Reason::OtherWords) {
+            return Ok(());
+        }
         write!(text, "; allowed: ")?;
         write_allowed(text, judge, &before, flit)
     }

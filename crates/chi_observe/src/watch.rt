@@ -156,7 +156,7 @@ impl Counts {
         ensures { IfSome result (λ counts. counts ≡ counts_after part aside fresh self) }
     {
         let counts = match part {
-            Part::Whole | Part::First => self.with_first(fresh)?,
+            Part::Whole | Part::First(_) => self.with_first(fresh)?,
             Part::Further | Part::Last(_) => self,
         };
         counts.with_aside(aside)

@@ -18,6 +18,7 @@ mod observer;
 mod prompt;
 mod rules;
 mod told;
+mod wanted;
 
 pub use arrivals::{Arrivals, Aside, Untaken};
 pub use arriving::{Arriving, Earlier, Held};
@@ -31,3 +32,4 @@ pub use listed::{KnownWords, ListedObserver};
 pub use observer::{AGENTS, AgentSeen, Observer, Reason};
 pub use prompt::{crossing_flits, prompt_flits};
 pub use told::Told;
+pub use wanted::Wanted;

@@ -332,7 +332,7 @@ impl AgentSeen {
     }
 
     /// Whether the flit says that there may have been a store since the last one.
-    fn is_renewed(self, stores: Stores, act: Act, goes: bool) -> bool
+    pub(crate) fn is_renewed(self, stores: Stores, act: Act, goes: bool) -> bool
         ensures { result ≡ renews stores act goes self.due (known_of self) }
     {
         match act {
