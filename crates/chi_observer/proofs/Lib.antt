@@ -52,3 +52,4 @@ mod LateComes
 mod LateGrants
 mod LateRuns
 mod LateCopies
+mod DataInBeats

@@ -1,15 +1,15 @@
 -- What the words of data have to be, where the line takes all else of their flit (docs/OBSERVER.md, "Data in beats").
-use Rattle.std.specs.Prelude.{◌&&◌, ◌||◌, Bool, not, if◌then◌else◌, is_some, nat_lt}
+use Rattle.std.specs.Prelude.{◌≡◌, ℕ, List, Some, ◌&&◌, ◌||◌, Bool, true, not, if◌then◌else◌, is_some, nat_lt}
 use Rattle.chi_observer.specs.declared.flits.CacheFlit.{CacheFlit}
 use Rattle.chi_observer.specs.declared.flits.HomeFlit.{HomeFlit}
 use Rattle.chi_observer.specs.declared.flits.Flit.{Flit}
 use Rattle.chi_observer.specs.declared.flits.Flit.TheVariants.{Up, Down}
 use Rattle.chi_observer.specs.declared.wanted.Wanted.{Wanted}
 use Rattle.chi_observer.specs.declared.wanted.Wanted.TheVariants.{Nothing, Known, Any}
-use Rattle.chi_observer.specs.Rules.{has_data, is_resending, lets_go, tells_words}
+use Rattle.chi_observer.specs.Rules.{gives_data, has_data, is_resending, lets_go, looks, tells_words}
 use Rattle.chi_observer.specs.Tables.{renews, shows_told}
-use Rattle.chi_observer.specs.Observed.{Observed}
-use Rattle.chi_observer.specs.Lines.{Watched}
+use Rattle.chi_observer.specs.Observed.{Observed, fits}
+use Rattle.chi_observer.specs.Lines.{Watched, is_taken, watch}
 
 abbrev pub wanted_if : Bool → Wanted
 wanted_if known = if known then Known else Any
@@ -28,3 +28,33 @@ wanted_given o g = if shows_told g.grant (o.told g.agent.0) then wanted_if (is_s
 abbrev pub wanted : Watched → Flit → Wanted
 wanted s (Up f) = if nat_lt f.agent.0 32 then wanted_sent s.seen f else Nothing
 wanted s (Down g) = if nat_lt g.agent.0 32 then wanted_given s.seen g else Nothing
+
+-- the words of a flit, and the flit with other ones
+abbrev pub flit_words : Flit → List ℕ
+flit_words (Up f) = f.shown
+flit_words (Down g) = g.shown
+
+abbrev pub flit_with : Flit → List ℕ → Flit
+flit_with (Up f) words = Up (record f { shown = words })
+flit_with (Down g) words = Down (record g { shown = words })
+
+-- the home has these words
+abbrev pub with_home : List ℕ → Watched → Watched
+with_home words s = record s { seen = record s.seen { home = Some words } }
+
+-- THE LAWS
+-- A flit that has no words of the line, and is no load, is taken whatever the home's words are, and leaves them.
+abbrev pub is_wordless : Flit → Bool
+is_wordless (Up f) = not (tells_words f.act || looks f.act)
+is_wordless (Down g) = not (gives_data g.grant)
+
+abbrev pub WordlessFlitsAreApart : Type 0
+WordlessFlitsAreApart = (s : Watched) (words : List ℕ) (e : Flit) → is_wordless e ≡ true → (is_taken (with_home words s) e ≡ is_taken s e) × (watch (with_home words s) e ≡ with_home words (watch s e))
+
+-- Data whose words may be any are taken with any, and all that their words change is the home's.
+abbrev pub AnyWordsAreTaken : Type 0
+AnyWordsAreTaken = (s : Watched) (words : List ℕ) (e : Flit) → wanted s e ≡ Any → (is_taken s (flit_with e words) ≡ is_taken s e) × (watch s (flit_with e words) ≡ with_home words (watch s e))
+
+-- Data whose words are to be known are taken with the home's words alone.
+abbrev pub KnownWordsAreTaken : Type 0
+KnownWordsAreTaken = (s : Watched) (e : Flit) → wanted s e ≡ Known → is_taken s e ≡ true → fits s.seen.home (flit_words e) ≡ true

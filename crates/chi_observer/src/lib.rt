@@ -32,4 +32,4 @@ pub use listed::{KnownWords, ListedObserver};
 pub use observer::{AGENTS, AgentSeen, Observer, Reason};
 pub use prompt::{crossing_flits, prompt_flits};
 pub use told::Told;
-pub use wanted::Wanted;
+pub use wanted::{Wanted, data_in_beats};

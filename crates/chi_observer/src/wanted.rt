@@ -4,7 +4,7 @@ ghost use Rattle.std.specs.Prelude.{◌≡◌, ◌<◌, ◌&&◌, not};
 ghost use Rattle.chi_observer.specs.Lines.{known_of, watched};
 ghost use Rattle.chi_observer.specs.Rules.{is_resending};
 ghost use Rattle.chi_observer.specs.Tables.{renews};
-ghost use Rattle.chi_observer.specs.Wanted.{wanted, wanted_if, wanted_given, wanted_sent};
+ghost use Rattle.chi_observer.specs.Wanted.{AnyWordsAreTaken, KnownWordsAreTaken, WordlessFlitsAreApart, wanted, wanted_if, wanted_given, wanted_sent};
 
 use crate::flits::{CacheFlit, Due, Flit, HomeFlit};
 use crate::observer::Observer;
@@ -21,6 +21,16 @@ pub enum Wanted {
     /// Any: the home has them then.
     Any,
 }
+
+/// The law by which data in beats are told at their first beat: flits without words go on whatever the home's words are, and
+/// leave them; data whose words may be any are taken with any, and change the home's words by them alone; and those whose
+/// words are to be known are taken with the home's alone.
+/// Source: `docs/OBSERVER.md`, "Data in beats".
+pub fn data_in_beats()
+    ensures apart { WordlessFlitsAreApart }
+    ensures any { AnyWordsAreTaken }
+    ensures known { KnownWordsAreTaken }
+{}
 
 impl Observer {
     /// What the words of a flit with data have to be; `Nothing` of every other.

@@ -1,0 +1,205 @@
+-- What the words of data change.
+use Rattle.std.proofs.Common.{rules, arith, ◌≡◌, ◌≢◌, ℕ, List, refl, sym, ap, ◌∙◌}
+use Rattle.std.specs.Prelude.{Bool, true, false, ◌&&◌, ◌||◌, not, nat_lt, Option, Some, None, is_some, if◌then◌else◌}
+use Rattle.chi_flit.specs.declared.numbers.Agent.{Agent}
+use Rattle.chi_flit.specs.declared.state.State.TheVariants as states
+use Rattle.chi_observer.specs.declared.flits.Act.{Act}
+use Rattle.chi_observer.specs.declared.flits.Act.TheVariants.{Request, Resend, SnpResp, CompAck, CopyBackWrData, NonCopyBackWrData, Load, Store}
+use Rattle.chi_observer.specs.declared.flits.Answer.TheVariants.{SnpRespI, SnpRespSC, SnpRespUC}
+use Rattle.chi_observer.specs.declared.flits.CacheFlit.{CacheFlit}
+use Rattle.chi_observer.specs.declared.flits.HomeFlit.{HomeFlit}
+use Rattle.chi_observer.specs.declared.flits.Due.{Due}
+use Rattle.chi_observer.specs.declared.flits.Due.TheVariants.{Resending}
+use Rattle.chi_observer.specs.declared.flits.Flit.{Flit}
+use Rattle.chi_observer.specs.declared.flits.Flit.TheVariants.{Up, Down}
+use Rattle.chi_observer.specs.declared.flits.Grant.{Grant}
+use Rattle.chi_observer.specs.declared.flits.Grant.TheVariants.{RetryAck, Snp, CompData, CompUC, CompSC, CompI, CompDBIDResp}
+use Rattle.chi_observer.specs.declared.wanted.Wanted.{Wanted}
+use Rattle.chi_observer.specs.declared.wanted.Wanted.TheVariants.{Nothing, Known, Any}
+use Rattle.chi_observer.specs.Rules.{allows, gives_data, has_data, is_resending, lets_go, looks, makes, reads_any, settles, tells_words}
+use Rattle.chi_observer.specs.Tables.{Known as Told, fills_told, fits_told, is_cancelled, most, renews, shows_told, told_behind, told_granted}
+use Rattle.chi_observer.specs.Judged.{is_judged}
+use Rattle.chi_observer.specs.Moments.{has_moment, shown_after, waits_after}
+use Rattle.chi_observer.specs.Observed.{Observed, current_after, differs, fits, fits_word, goes}
+use Rattle.chi_observer.specs.Worlds.{home_may, public_after, public_granted, put}
+use Rattle.chi_observer.specs.Lines.{Watched, is_taken, watch}
+use Rattle.chi_observer.specs.Wanted.{flit_with, flit_words, is_wordless, wanted, wanted_if, with_home}
+use Rattle.chi_observer.proofs.Finite.{no, left, right}
+
+-- flits without words
+Apart : Watched → List ℕ → Flit → Type 0
+Apart s words e = (is_taken (with_home words s) e ≡ is_taken s e) × (watch (with_home words s) e ≡ with_home words (watch s e))
+
+abbrev with_known : Option (List ℕ) → Watched → Watched
+with_known known s = record s { seen = record s.seen { home = known } }
+
+each_home : (P : Option (List ℕ) → Type 0) → P None → ((u : List ℕ) → P (Some u)) → (known : Option (List ℕ)) → P known
+each_home P none some None = none
+each_home P none some (Some u) = some u
+
+-- whether the home's words are known or not
+by_home : (s : Watched) (words : List ℕ) (e : Flit) → Apart (with_known None s) words e → ((u : List ℕ) → Apart (with_known (Some u) s) words e) → Apart s words e
+by_home s words e none some = each_home (λ known. Apart (with_known known s) words e) none some s.seen.home
+
+apart_sent : (s : Watched) (words : List ℕ) (n : Agent) (v : List ℕ) (a : Act) → not (tells_words a || looks a) ≡ true → Apart s words (Up (record { agent = n; act = a; shown = v }))
+unfolding Apart
+apart_sent s words n v (Request k) h = by_home s words (Up (record { agent = n; act = Request k; shown = v })) (refl, refl) (λ u. (refl, refl))
+apart_sent s words n v (Resend k) h = by_home s words (Up (record { agent = n; act = Resend k; shown = v })) (refl, refl) (λ u. (refl, refl))
+apart_sent s words n v (SnpResp SnpRespI) h = by_home s words (Up (record { agent = n; act = SnpResp SnpRespI; shown = v })) (refl, refl) (λ u. (refl, refl))
+apart_sent s words n v (SnpResp SnpRespSC) h = by_home s words (Up (record { agent = n; act = SnpResp SnpRespSC; shown = v })) (refl, refl) (λ u. (refl, refl))
+apart_sent s words n v (SnpResp SnpRespUC) h = by_home s words (Up (record { agent = n; act = SnpResp SnpRespUC; shown = v })) (refl, refl) (λ u. (refl, refl))
+apart_sent s words n v (SnpResp other) h = no h
+apart_sent s words n v CompAck h = by_home s words (Up (record { agent = n; act = CompAck; shown = v })) (refl, refl) (λ u. (refl, refl))
+apart_sent s words n v (CopyBackWrData states.I) h = by_home s words (Up (record { agent = n; act = CopyBackWrData states.I; shown = v })) (refl, refl) (λ u. (refl, refl))
+apart_sent s words n v (CopyBackWrData other) h = no h
+apart_sent s words n v NonCopyBackWrData h = no h
+apart_sent s words n v (Load word) h = no h
+apart_sent s words n v (Store word) h = by_home s words (Up (record { agent = n; act = Store word; shown = v })) (refl, refl) (λ u. (refl, refl))
+
+apart_given : (s : Watched) (words : List ℕ) (n : Agent) (v : List ℕ) (g : Grant) → not (gives_data g) ≡ true → Apart s words (Down (record { agent = n; grant = g; shown = v }))
+unfolding Apart
+apart_given s words n v RetryAck h = (refl, refl)
+apart_given s words n v (Snp x) h = (refl, refl)
+apart_given s words n v (CompData form) h = no h
+apart_given s words n v CompUC h = (refl, refl)
+apart_given s words n v CompSC h = (refl, refl)
+apart_given s words n v CompI h = (refl, refl)
+apart_given s words n v CompDBIDResp h = (refl, refl)
+
+pub apart : (s : Watched) (words : List ℕ) (e : Flit) → is_wordless e ≡ true → (is_taken (with_home words s) e ≡ is_taken s e) × (watch (with_home words s) e ≡ with_home words (watch s e))
+unfolding Apart
+apart s words (Up f) h = apart_sent s words f.agent f.shown f.act h
+apart s words (Down g) h = apart_given s words g.agent g.shown g.grant h
+
+-- what has to hold of a flit whose words may be any, or have to be known
+wanted_any : (b k : Bool) → (if b then Nothing else wanted_if k) ≡ Any → (b ≡ false) × (k ≡ false)
+wanted_any true k h = absurd (search (rules, arith))
+wanted_any false true h = absurd (search (rules, arith))
+wanted_any false false h = (refl, refl)
+
+wanted_known : (b k : Bool) → (if b then Nothing else wanted_if k) ≡ Known → (b ≡ false) × (k ≡ true)
+wanted_known true k h = absurd (search (rules, arith))
+wanted_known false false h = absurd (search (rules, arith))
+wanted_known false true h = (refl, refl)
+
+in_reach : (b : Bool) (w x : Wanted) → (if b then w else Nothing) ≡ x → x ≢ Nothing → (b ≡ true) × (w ≡ x)
+in_reach true w x h n = (refl, h)
+in_reach false w x h n = absurd (n (sym h))
+
+none_of : (a b : Bool) → (a || b) ≡ false → (a ≡ false) × (b ≡ false)
+none_of true b h = absurd (search (rules, arith))
+none_of false b h = (refl, h)
+
+turned : (b : Bool) → not b ≡ false → b ≡ true
+turned true h = refl
+turned false h = sym h
+
+-- words that have to be known
+held : (worded renewed current known fit : Bool) → (worded && (not renewed && (current && known))) ≡ true → (not worded || (renewed || (not current || fit))) ≡ true → fit ≡ true
+held true false true known fit k t = t
+held true false false known fit k t = no k
+held true true current known fit k t = no k
+held false renewed current known fit k t = no k
+
+shown_fits : (b fit : Bool) → b ≡ true → (not b || fit) ≡ true → fit ≡ true
+shown_fits true fit h t = t
+shown_fits false fit h t = no h
+
+known_sent : (s : Watched) (f : CacheFlit) → wanted s (Up f) ≡ Known → is_taken s (Up f) ≡ true → fits s.seen.home f.shown ≡ true
+known_sent s f h t =
+    let o = s.seen in
+    let n = f.agent.0 in
+    let renewed = renews o.public.stores f.act (lets_go (o.public.snooped n)) (o.public.due n) (o.told n) in
+    let k = (wanted_known (not (tells_words f.act) || is_resending (o.public.due n)) _ (in_reach (nat_lt n 32) _ Known h (λ e. absurd (search (rules, arith)))).1).1 in
+    held (has_data f.act) renewed o.current (is_some o.home) _ k
+    (left _ _ (right (fits_told o.public.stores f.act (lets_go (o.public.snooped n)) (o.public.due n) (o.told n)) _ (right (allows f.act (o.public.snooped n)) _ (right (nat_lt n 32) _ (right (is_judged (Up f)) _ t)))))
+
+known_given : (s : Watched) (g : HomeFlit) → wanted s (Down g) ≡ Known → is_taken s (Down g) ≡ true → fits s.seen.home g.shown ≡ true
+known_given s g h t =
+    let o = s.seen in
+    let n = g.agent.0 in
+    let shows = (in_reach (shows_told g.grant (o.told n)) _ Known (in_reach (nat_lt n 32) _ Known h (λ e. absurd (search (rules, arith)))).1 (λ e. absurd (search (rules, arith)))).0 in
+    shown_fits (shows_told g.grant (o.told n)) _ shows
+    (left _ _ (right (home_may o.public g) _ (right (has_moment o s.shown g) _ (right (nat_lt n 32) _ (right (is_judged (Down g)) _ t)))))
+
+pub known_taken : (s : Watched) (e : Flit) → wanted s e ≡ Known → is_taken s e ≡ true → fits s.seen.home (flit_words e) ≡ true
+known_taken s (Up f) = known_sent s f
+known_taken s (Down g) = known_given s g
+
+-- words that may be any
+any_fits : (worded renewed current : Bool) (home : Option (List ℕ)) (v : List ℕ) → (worded && (not renewed && (current && is_some home))) ≡ false → (not worded || (renewed || (not current || fits home v))) ≡ true
+any_fits false renewed current home v k = refl
+any_fits true true current home v k = refl
+any_fits true false false home v k = refl
+any_fits true false true None v k = refl
+any_fits true false true (Some u) v k = no (sym k)
+
+none_fits : (home : Option (List ℕ)) (v : List ℕ) → is_some home ≡ false → fits home v ≡ true
+none_fits None v h = refl
+none_fits (Some u) v h = no (sym h)
+
+wanted_none : (k : Bool) → wanted_if k ≡ Any → k ≡ false
+wanted_none true h = absurd (search (rules, arith))
+wanted_none false h = refl
+
+cancelled_same : (a : Act) (d : Due) (k : Told) (x y : Bool) → is_resending d ≡ false → is_cancelled a d k x ≡ is_cancelled a d k y
+cancelled_same (SnpResp z) (Resending q) k x y h = no (sym h)
+cancelled_same (SnpResp z) other k x y h = refl
+cancelled_same (Load z) (Resending q) k x y h = refl
+cancelled_same (Load z) other k x y h = refl
+cancelled_same (Store z) (Resending q) k x y h = refl
+cancelled_same (Store z) other k x y h = refl
+cancelled_same other d k x y h = refl
+
+any_sent : (s : Watched) (words : List ℕ) (f : CacheFlit) → wanted s (Up f) ≡ Any → (is_taken s (flit_with (Up f) words) ≡ is_taken s (Up f)) × (watch s (flit_with (Up f) words) ≡ with_home words (watch s (Up f)))
+any_sent s words f h =
+    let o = s.seen in
+    let n = f.agent.0 in
+    let renewed = renews o.public.stores f.act (lets_go (o.public.snooped n)) (o.public.due n) (o.told n) in
+    let free = wanted_any (not (tells_words f.act) || is_resending (o.public.due n)) _ (in_reach (nat_lt n 32) _ Any h (λ e. absurd (search (rules, arith)))).1 in
+    let form = none_of (not (tells_words f.act)) (is_resending (o.public.due n)) free.0 in
+    let tells : tells_words f.act ≡ true = turned (tells_words f.act) form.0 in
+    let alike = any_fits (has_data f.act) renewed o.current o.home words free.1 ∙ sym (any_fits (has_data f.act) renewed o.current o.home f.shown free.1) in
+    let cancelled = cancelled_same f.act (o.public.due n) (o.told n) (differs o (record f { shown = words })) (differs o f) form.1 in
+    let home : (if tells_words f.act then Some words else o.home) ≡ Some words = ap (λ (b : Bool). if b then Some words else o.home) tells in
+    let next_so : Bool → Option (List ℕ) → Observed = λ c u. record {
+      public = public_after f o.public;
+      told = put n (record { told = told_behind f.act (o.public.due n) (o.told n).told; cancelled = c }) o.told;
+      home = u;
+      current = current_after f renewed o.current;
+    } in
+    let so : Bool → Option (List ℕ) → Watched = λ c u. record {
+      seen = next_so c u;
+      waits = waits_after (next_so c u) (Up f) s.waits;
+      shown = λ m. waits_after (next_so c u) (Up f) s.waits && shown_after (next_so c u) (Up f) s.shown m;
+    } in (
+      ap (λ (x : Bool). is_judged (Up f) && (nat_lt n 32 && (allows f.act (o.public.snooped n) && (fits_told o.public.stores f.act (lets_go (o.public.snooped n)) (o.public.due n) (o.told n) && (x && (reads_any o.public.stores (o.public.due n) (most (o.told n)) || (not o.current || fits_word o.home f.act))))))) alike,
+      λ i. so (cancelled i) (home i),
+    )
+
+any_given : (s : Watched) (words : List ℕ) (g : HomeFlit) → wanted s (Down g) ≡ Any → (is_taken s (flit_with (Down g) words) ≡ is_taken s (Down g)) × (watch s (flit_with (Down g) words) ≡ with_home words (watch s (Down g)))
+any_given s words g h =
+    let o = s.seen in
+    let n = g.agent.0 in
+    let given = in_reach (shows_told g.grant (o.told n)) _ Any (in_reach (nat_lt n 32) _ Any h (λ e. absurd (search (rules, arith)))).1 (λ e. absurd (search (rules, arith))) in
+    let unknown = wanted_none (is_some o.home) given.1 in
+    let alike = none_fits o.home words unknown ∙ sym (none_fits o.home g.shown unknown) in
+    let home : (if shows_told g.grant (o.told n) then Some words else o.home) ≡ Some words = ap (λ (b : Bool). if b then Some words else o.home) given.0 in
+    let next_so : Option (List ℕ) → Observed = λ u. record {
+      public = public_granted g o.public;
+      told = put n (told_granted g.grant (o.public.due n) (o.told n)) o.told;
+      home = u;
+      current = settles g.grant (o.public.due n) || (o.current && not (makes g.grant (o.public.due n)));
+    } in
+    let so : Option (List ℕ) → Watched = λ u. record {
+      seen = next_so u;
+      waits = waits_after (next_so u) (Down g) s.waits;
+      shown = λ m. waits_after (next_so u) (Down g) s.waits && shown_after (next_so u) (Down g) s.shown m;
+    } in (
+      ap (λ (x : Bool). is_judged (Down g) && (nat_lt n 32 && (has_moment o s.shown g && (home_may o.public g && ((not (shows_told g.grant (o.told n)) || x) && ((not (fills_told g.grant (o.told n)) || o.current) && goes o g)))))) alike,
+      λ i. so (home i),
+    )
+
+pub any_taken : (s : Watched) (words : List ℕ) (e : Flit) → wanted s e ≡ Any → (is_taken s (flit_with e words) ≡ is_taken s e) × (watch s (flit_with e words) ≡ with_home words (watch s e))
+any_taken s words (Up f) = any_sent s words f
+any_taken s words (Down g) = any_given s words g
