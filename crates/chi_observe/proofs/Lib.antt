@@ -13,3 +13,4 @@ mod EqualWatches
 mod EqualWords
 mod EqualTables
 mod EqualParts
+mod BeatLemmas

@@ -22,3 +22,4 @@ pub mod Tallies
 pub mod Recent
 pub mod Reports
 pub mod Comparisons
+pub mod InBeats

@@ -1,6 +1,9 @@
-//! The law of a watch with a room.
+//! The laws of a watch.
 
 ghost use Rattle.chi_observe.specs.Bounded.{StartsWithin, StaysWithin};
+ghost use Rattle.chi_observe.specs.InBeats.{BeatsAreOneFlit};
+
+use chi_observer::data_in_beats;
 
 /// The law that no table ever holds more than there is room for: so it is of a watch that has seen no flit, and if it is so
 /// before a line of a trace for which there is room, so it is behind it.
@@ -9,3 +12,13 @@ pub fn a_watch_stays_in_its_room()
     ensures starts { StartsWithin }
     ensures stays { StaysWithin }
 {}
+
+/// The law that a line which is judged from the trace's beginning takes data in beats, and flits without words of the line
+/// between the beats, exactly where it takes the data with all words in the place of the first beat, and those flits behind;
+/// and that what is told then is the same.
+/// Source: `docs/OBSERVER.md`, "Data in beats".
+pub fn beats_are_one_flit()
+    ensures { BeatsAreOneFlit }
+{
+    data_in_beats();
+}

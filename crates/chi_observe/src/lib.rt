@@ -44,7 +44,7 @@ pub use events::{AccessEvent, Event, LineEvent, Tells};
 pub use facts::{FaultFacts, Ground};
 pub use ids::{CacheLine, IdKey, OpenId, Purpose, Sides};
 pub use judges::Log;
-pub use laws::a_watch_stays_in_its_room;
+pub use laws::{a_watch_stays_in_its_room, beats_are_one_flit};
 pub use observations::observe;
 pub use progress::{Nobody, Progress};
 pub use reasons::{IdReason, LineReason};
