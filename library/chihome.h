@@ -239,7 +239,7 @@ enum ChiIdForm {
 };
 
 /* Why an observer doesn't take a flit (docs/OBSERVER.md, "Faults" and "Ids and credits"): the ids or the credits don't allow
- * it (1 to 11), or its line doesn't (12 to 24). */
+ * it (1 to 11, and 25), or its line doesn't (12 to 24). */
 enum ChiObserverReason {
     CHI_Fault_None = 0,           /* there is no fault */
     CHI_Fault_InUse = 1,          /* it opens an id that is in use */
@@ -265,7 +265,8 @@ enum ChiObserverReason {
     CHI_Fault_OtherWords = 21,    /* the words are known to be others */
     CHI_Fault_OtherCopy = 22,     /* another copy was told to be what doesn't go with the one that it makes */
     CHI_Fault_Lost = 23,          /* the value last stored may have been thrown away */
-    CHI_Fault_Other = 24          /* another reason, which chi_observer_text says */
+    CHI_Fault_Other = 24,         /* another reason, which chi_observer_text says */
+    CHI_Fault_OtherBeat = 25      /* the first beat of the id's data has another RESP, or another DBID */
 };
 
 /* What an action gives, how far a request has come, what a line serves, what an arrival came to, and where a released
@@ -644,7 +645,7 @@ typedef struct {
     uint64_t number;      /* of the flit, as it was given; 0 where there is no fault */
     uint64_t line;        /* the address of the first byte of its line of memory, where has_line is 1 */
     uint64_t since;       /* the number of the flit that has told what the reason rests on, 0 where none has: it opened the
-                             id (1 to 11), was the line's first (12), told the copy of `told`, or the words (21) */
+                             id (1 to 11, and 25), was the line's first (12), told the copy of `told`, or the words (21) */
     uint64_t expected[8]; /* of CHI_Fault_OtherWords: the words that are known, the flit's where they aren't; else 0 */
     uint16_t node;        /* the requester that the flit is of or to */
     uint16_t home;        /* the other node of the flit */

@@ -264,7 +264,8 @@ enum class ObserverReason : std::uint8_t {
     OtherWords = CHI_Fault_OtherWords,
     OtherCopy = CHI_Fault_OtherCopy,
     Lost = CHI_Fault_Lost,
-    Other = CHI_Fault_Other
+    Other = CHI_Fault_Other,
+    OtherBeat = CHI_Fault_OtherBeat
 };
 
 /* What an action gives, how far a request has come, what a line serves, what an arrival came to, and where a released

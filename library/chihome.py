@@ -299,6 +299,7 @@ class ObserverReason(enum.IntEnum):
     OtherCopy = 22
     Lost = 23
     Other = 24
+    OtherBeat = 25
 
 
 class Stores(enum.IntEnum):

@@ -50,7 +50,8 @@ static const char *const ID_FORMS[] = {"None", "Request", "Buffer", "Snoop", "Re
 
 static const char *const OBSERVER_REASONS[] = {"None", "InUse", "NotOpen", "Unfinished", "WordAgain", "WrongAddress",
     "NotRetryable", "OtherType", "NothingRetried", "NoCredit", "NoDbid", "Form", "OtherHome", "NotJudged", "NoAgent",
-    "NotSent", "NotDue", "Busy", "NoMoment", "NoOverwriter", "NoDuty", "OtherWords", "OtherCopy", "Lost", "Other"};
+    "NotSent", "NotDue", "Busy", "NoMoment", "NoOverwriter", "NoDuty", "OtherWords", "OtherCopy", "Lost", "Other",
+    "OtherBeat"};
 
 static const char *name_in(const char *const *names, size_t count, uint8_t number) {
     return number < count ? names[number] : "?";

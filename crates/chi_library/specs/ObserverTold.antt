@@ -106,6 +106,7 @@ id_reason_number (ids.NothingRetried sides pcrd) = 8
 id_reason_number (ids.NoCredit sides pcrd) = 9
 id_reason_number (ids.NoDbid key) = 10
 id_reason_number (ids.Form resp) = 11
+id_reason_number (ids.OtherBeat key) = 25
 
 abbrev pub rule_number : Reason → ℕ
 rule_number rules.NotJudged = 13

@@ -311,6 +311,7 @@ fn id_reason_number(reason: IdReason) -> u8
         IdReason::NoCredit(_, _) => 9,
         IdReason::NoDbid(_) => 10,
         IdReason::Form(_) => 11,
+        IdReason::OtherBeat(_) => 25,
     }
 }
 

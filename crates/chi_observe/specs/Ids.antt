@@ -65,7 +65,7 @@ is_alike key other = alike_numbers (numbers_of key) (numbers_of other)
 
 -- an id that is opened
 abbrev pub opened_id : IdKey → CacheLine → Purpose → OpenId
-opened_id key line purpose = record { key = key; line = line; purpose = purpose; waits_for = None; lacks = None; begun = None; since = 0 }
+opened_id key line purpose = record { key = key; line = line; purpose = purpose; waits_for = None; lacks = None; begun = None; dbid = None; since = 0 }
 
 -- the ids without that of a key, if one is free; the last takes its place
 abbrev pub without : Option IdKey → List (KeyNumbers × OpenId) → List (KeyNumbers × OpenId)

@@ -15,7 +15,7 @@ use Rattle.chi_observer.specs.Begun.{Beginning, begun, begun_after, forgetting, 
 use Rattle.chi_observer.specs.Arrivals.{Arrived, Outcome, arrived, is_untaken, nothing_arrived, outcome}
 use Rattle.chi_observer.specs.Arrivals.Outcome.{Taken, NotTaken, LeftOpen as LeftAtHome}
 use Rattle.chi_observer.specs.Arriving.{holds_none}
-use Rattle.chi_observer.specs.Wanted.{wanted}
+use Rattle.chi_observer.specs.Wanted.{wanted, with_home}
 use Rattle.chi_observer.specs.declared.wanted.Wanted.{Wanted}
 use Rattle.chi_observer.specs.declared.wanted.Wanted.TheVariants as wants
 use Rattle.chi_observe.specs.declared.judges.Before.{Before as CodeBefore}
@@ -147,9 +147,6 @@ wanted_in (FromListed l) flit = only_known (wanted l.line flit)
 wanted_in told flit = wants.Nothing
 
 -- the home has these words
-abbrev pub with_home : List ℕ → Watched → Watched
-with_home words w = record w { seen = record w.seen { home = Some words } }
-
 abbrev pub worded : List ℕ → Judged → Judged
 worded words (FromStart w) = FromStart (with_home words w)
 worded words told = told

@@ -8,6 +8,7 @@ use Rattle.chi_observer.specs.declared.observer.Reason.TheVariants.{OtherWords}
 use Rattle.chi_observer.specs.declared.wanted.Wanted.{Wanted}
 use Rattle.chi_observer.specs.declared.wanted.Wanted.TheVariants as wants
 use Rattle.chi_observer.specs.Rules.{looks}
+use Rattle.chi_observer.specs.Wanted.{flit_with, flit_words}
 use Rattle.chi_observe.specs.declared.ids.CacheLine.{CacheLine}
 use Rattle.chi_observe.specs.declared.lines.Lacking.{Lacking}
 use Rattle.chi_observe.specs.declared.lines.Lacking.TheVariants as lacks
@@ -88,16 +89,8 @@ abbrev pub flit_next : Before → LineState → ℕ → Option Flit → LineStat
 flit_next before s number None = put_aside s
 flit_next before s number (Some flit) = if s.aside then s else next_by (verdict before number s.told flit) s number flit
 
--- Data that come in beats (docs/OBSERVER.md, "Data in beats") are told at their first one, where it is known what the words that lack have to be, or where they
--- may be any; else at their last one, and what comes between sets the line aside.
-abbrev pub flit_words : Flit → List ℕ
-flit_words (Up sent) = sent.shown
-flit_words (Down given) = given.shown
-
-abbrev pub flit_with : Flit → List ℕ → Flit
-flit_with (Up sent) words = Up (record sent { shown = words })
-flit_with (Down given) words = Down (record given { shown = words })
-
+-- Data that come in beats (docs/OBSERVER.md, "Data in beats") are told at their first one, where it is known what the words
+-- that lack have to be, or where they may be any; else at their last one, and what comes between sets the line aside.
 abbrev pub is_load : Flit → Bool
 is_load (Up sent) = looks sent.act
 is_load (Down given) = false

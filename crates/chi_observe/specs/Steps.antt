@@ -121,7 +121,7 @@ opening table found dbid change (parts.Last tells) = Ok change
 unfoldable pub read_data : Table → Sides → TxnId → Option DbId → List Bool → Option CacheLine → Tells → Result Change IdReason
 read_data table sides txn dbid there at tells = do
   found ← named table (keys.Request sides txn) at
-  change ← beat_of table (keys.Request sides txn) there at tells
+  change ← beat_of table (keys.Request sides txn) there dbid at tells
   opening table found dbid change change.part
 
 -- each flit of a line between these nodes; the line is that of its address, if it has one
@@ -134,9 +134,9 @@ change_of options table sides (Complete txn) at tells = acknowledged table (keys
 change_of options table sides (CompleteWith txn dbid) at tells = completed table sides txn dbid at
 change_of options table sides (ReadData txn dbid there) at tells = read_data table sides txn dbid there at tells
 change_of options table sides (Answer txn) at tells = acknowledged table (keys.Snoop sides txn) at
-change_of options table sides (AnswerData txn there) at tells = beat_of table (keys.Snoop sides txn) there at tells
+change_of options table sides (AnswerData txn there) at tells = beat_of table (keys.Snoop sides txn) there None at tells
 change_of options table sides (Acknowledge dbid) at tells = acknowledged table (keys.Buffer sides dbid) at
-change_of options table sides (WriteData dbid there) at tells = beat_of table (keys.Buffer sides dbid) there at tells
+change_of options table sides (WriteData dbid there) at tells = beat_of table (keys.Buffer sides dbid) there None at tells
 change_of options table sides (UnknownRequest txn line spends) at tells = unknown_request table sides txn line spends
 change_of options table sides (UnknownSnoop txn line) at tells = unknown_snoop table sides txn line
 change_of options table sides (UnknownAnswer txn) at tells = unknown_answer table (keys.Snoop sides txn) at

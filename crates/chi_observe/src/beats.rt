@@ -1,15 +1,16 @@
 //! Data that come in beats.
 
 ghost use Rattle.std.specs.Prelude.{◌≡◌};
-ghost use Rattle.chi_observe.specs.Beats.{beat_of, first_beat, is_again, is_word_again, kept_with, lacking, lacks_some, later_beat, left_of, told_with};
+ghost use Rattle.chi_observe.specs.Beats.{beat_of, first_beat, first_dbid, is_again, is_same_beat, is_word_again, kept_with, lacking, lacks_some, later_beat, left_of, told_with};
 ghost use Rattle.chi_observe.specs.Events.{word_with, words_with};
 ghost use Rattle.chi_observe.specs.Tables.{table_of};
 
 use crate::events::Tells;
-use crate::ids::{CacheLine, IdKey, OpenId};
+use crate::ids::{CacheLine, IdKey, OpenId, Purpose};
 use crate::reasons::IdReason;
 use crate::tables::{Change, Part, Tables, plain_change};
 use chi_flit::Data;
+use chi_trace::DbId;
 use std::alloc::Allocator;
 
 /// Whether a beat has a word that doesn't lack.
@@ -94,25 +95,41 @@ fn told_with(begun: Tells, beat: Tells, there: &[bool; 8]) -> Tells
     begun.with_words(words_with(&begun.words(), &beat.words(), there))
 }
 
+/// The DBID that all beats of data for an id have to name: none where no CompAck follows.
+fn first_dbid(purpose: Purpose, dbid: Option<DbId>) -> Option<DbId>
+    ensures { result ≡ first_dbid purpose dbid }
+{
+    if purpose.is_kept_for() { dbid } else { None }
+}
+
+/// Whether a later beat has the form of the first one, and its DBID.
+fn is_same_beat(found: &OpenId, tells: Tells, dbid: Option<DbId>) -> bool
+    ensures { result ≡ is_same_beat found.now tells dbid }
+{
+    let begun = found.begun.unwrap_or(tells);
+    begun.with_words(tells.words()) == tells && found.dbid == dbid
+}
+
 /// The id's data lack these words yet, and tell this.
-fn kept_with(found: &OpenId, left: [bool; 8], tells: Tells) -> OpenId
-    ensures { result ≡ kept_with found.now left tells }
+fn kept_with(found: &OpenId, left: [bool; 8], tells: Tells, dbid: Option<DbId>) -> OpenId
+    ensures { result ≡ kept_with found.now left tells dbid }
 {
     OpenId {
         lacks: Some(left),
         begun: Some(tells),
+        dbid,
         ..*found
     }
 }
 
 /// The id's first beat, behind which these words lack.
-fn first_beat(found: &OpenId, left: [bool; 8], tells: Tells) -> Change
-    ensures { result ≡ first_beat found.now left tells }
+fn first_beat(found: &OpenId, left: [bool; 8], tells: Tells, dbid: Option<DbId>) -> Change
+    ensures { result ≡ first_beat found.now left tells dbid }
 {
     let change = plain_change(found.line);
     if lacks_some(&left) {
         Change {
-            keeps: Some(kept_with(found, left, tells)),
+            keeps: Some(kept_with(found, left, tells, dbid)),
             part: Part::First(left),
             ..change
         }
@@ -131,7 +148,7 @@ fn later_beat(found: &OpenId, left: [bool; 8], tells: Tells) -> Change
     let change = plain_change(found.line);
     if lacks_some(&left) {
         Change {
-            keeps: Some(kept_with(found, left, tells)),
+            keeps: Some(kept_with(found, left, tells, found.dbid)),
             part: Part::Further,
             ..change
         }
@@ -145,23 +162,28 @@ fn later_beat(found: &OpenId, left: [bool; 8], tells: Tells) -> Change
 }
 
 impl<A: Allocator> Tables<'_, A> {
-    /// A beat of data: it frees the id where no word lacks any more.
+    /// A beat of data, which names a DBID where it is a read's: it frees the id where no word lacks any more.
     pub(crate) fn beat(
         &self,
         key: IdKey,
         there: &[bool; 8],
+        dbid: Option<DbId>,
         at: Option<CacheLine>,
         tells: Tells,
     ) -> Result<Change, IdReason>
-        ensures { result ≡ beat_of (table_of self.now) key there.now at tells }
+        ensures { result ≡ beat_of (table_of self.now) key there.now dbid at tells }
     {
         let found = self.named(key, at)?;
         if found.purpose.is_unknown() {
             return Ok(plain_change(found.line));
         }
+        let dbid = first_dbid(found.purpose, dbid);
         match found.lacks {
-            None => Ok(first_beat(&found, left_of(&[true; 8], there), tells)),
+            None => Ok(first_beat(&found, left_of(&[true; 8], there), tells, dbid)),
             Some(lacks) => {
+                if !is_same_beat(&found, tells, dbid) {
+                    return Err(IdReason::OtherBeat(key));
+                }
                 if is_again(&lacks, there) {
                     return Err(IdReason::WordAgain(key));
                 }

@@ -126,6 +126,8 @@ pub struct OpenId {
     pub lacks: Option<[bool; 8]>,
     /// What its data tell, with the words that have come, once a beat has.
     pub begun: Option<Tells>,
+    /// The DBID that the first beat named, of data that CompAck follows.
+    pub dbid: Option<DbId>,
     /// The number of the trace's line that opened it, counted from 1; 0 of one that isn't open yet.
     pub since: usize,
 }
@@ -182,6 +184,7 @@ pub(crate) fn opened_id(key: IdKey, line: CacheLine, purpose: Purpose) -> OpenId
         waits_for: None,
         lacks: None,
         begun: None,
+        dbid: None,
         since: 0,
     }
 }

@@ -2,9 +2,10 @@
 
 ghost use Rattle.std.specs.Prelude.{◌≡◌, IfOk, None, OnOk, nat_eq};
 ghost use Rattle.std.specs.Map.{lookup};
+ghost use Rattle.chi_observer.specs.Wanted.{flit_with, flit_words};
 ghost use Rattle.chi_observe.specs.declared.lines.LineStop.TheVariants as stops;
 ghost use Rattle.chi_observe.specs.Judges.{before_of};
-ghost use Rattle.chi_observe.specs.Lines.{IsBegunTold, IsEarlyTold, IsEndTold, IsFlitTold, IsHeldTold, IsLineTold, IsShownTold, IsTold, filled, flit_with, flit_words, held_next, home_of, is_apart, is_aside, is_load, is_put_aside, is_wanted_known, lacking_with, lacking_without, line_state, lines_in, marked_next, opened_line, put_aside, wanted_of};
+ghost use Rattle.chi_observe.specs.Lines.{IsBegunTold, IsEarlyTold, IsEndTold, IsFlitTold, IsHeldTold, IsLineTold, IsShownTold, IsTold, filled, held_next, home_of, is_apart, is_aside, is_load, is_put_aside, is_wanted_known, lacking_with, lacking_without, line_state, lines_in, marked_next, opened_line, put_aside, wanted_of};
 
 use crate::beats::words_with;
 use crate::ids::CacheLine;

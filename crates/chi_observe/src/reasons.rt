@@ -17,6 +17,8 @@ pub enum IdReason {
     Unfinished(IdKey),
     /// A later beat of the id's data has a word again.
     WordAgain(IdKey),
+    /// A later beat of the id's data has another form than the first, or names another DBID where CompAck follows.
+    OtherBeat(IdKey),
     /// The flit's address is in the first line, and its id is of the other.
     WrongAddress { named: CacheLine, line: CacheLine },
     /// A RetryAck of a request without AllowRetry, or of what is no request.

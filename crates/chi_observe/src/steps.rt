@@ -319,7 +319,7 @@ impl<A: Allocator> Tables<'_, A> {
     {
         let key = IdKey::Request(sides, txn);
         let found = self.named(key, at)?;
-        let change = self.beat(key, there, at, tells)?;
+        let change = self.beat(key, there, dbid, at, tells)?;
         match change.part {
             Part::Further | Part::Last(_) => Ok(change),
             Part::Whole | Part::First(_) => {
@@ -352,6 +352,7 @@ impl<A: Allocator> Tables<'_, A> {
             IdStep::AnswerData(txn, there) => self.beat(
                 IdKey::Snoop(sides, *txn),
                 there,
+                None,
                 at,
                 tells,
             ),
@@ -365,6 +366,7 @@ impl<A: Allocator> Tables<'_, A> {
             IdStep::WriteData(dbid, there) => self.beat(
                 IdKey::Buffer(sides, *dbid),
                 there,
+                None,
                 at,
                 tells,
             ),

@@ -49,6 +49,10 @@ impl fmt::Display for IdText {
                 let key = KeyName(key);
                 write!(f, "an earlier beat of its {key} has such a word")
             }
+            IdReason::OtherBeat(key) => {
+                let key = KeyName(key);
+                write!(f, "the first beat of its {key} has another RESP or DBID")
+            }
             IdReason::WrongAddress { named: _, line } => {
                 let line = LineName(line);
                 write!(f, "its id is of the line at {line}")
@@ -454,6 +458,7 @@ pub(crate) fn key_of(reason: IdReason, event: &Event) -> Option<IdKey> {
         (IdReason::InUse(key), _) => Some(key),
         (IdReason::Unfinished(key), _) => Some(key),
         (IdReason::WordAgain(key), _) => Some(key),
+        (IdReason::OtherBeat(key), _) => Some(key),
         (IdReason::NotRetryable(key), _) => Some(key),
         (IdReason::NoDbid(key), _) => Some(key),
         (IdReason::WrongAddress { .. }, Event::Line(event)) => named_key(event),
