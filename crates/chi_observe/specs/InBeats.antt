@@ -1,15 +1,15 @@
 -- Data in beats are judged as whole data in the place of their first beat (docs/OBSERVER.md, "Data in beats").
-use Rattle.std.specs.Prelude.{◌≡◌, ◌≢◌, ℕ, Bool, true, false, ◌&&◌, List, [], ◌∷◌, ◌++◌, Option, Some}
+use Rattle.std.specs.Prelude.{◌≡◌, ◌≢◌, ℕ, Bool, true, false, ◌&&◌, List, [], ◌∷◌, ◌++◌, Some}
 use Rattle.chi_trace.specs.declared.fields.NodeId.{NodeId}
 use Rattle.chi_observer.specs.declared.flits.Flit.{Flit}
 use Rattle.chi_observer.specs.declared.wanted.Wanted.TheVariants as wants
 use Rattle.chi_observer.specs.Lines.{Watched}
-use Rattle.chi_observer.specs.Wanted.{flit_with, flit_words, is_wordless, wanted}
+use Rattle.chi_observer.specs.Wanted.{flit_with, flit_words, wanted}
 use Rattle.chi_observe.specs.declared.lines.Lacking.TheVariants as lacks
 use Rattle.chi_observe.specs.declared.lines.LineNews.{LineNews}
 use Rattle.chi_observe.specs.declared.lines.LineNews.TheVariants as news
 use Rattle.chi_observe.specs.Events.{words_with}
-use Rattle.chi_observe.specs.Judges.{Before, Judged}
+use Rattle.chi_observe.specs.Judges.{Before}
 use Rattle.chi_observe.specs.Judges.Judged.{FromStart}
 use Rattle.chi_observe.specs.Lines.{LineState, line_next, takes_line}
 use Rattle.chi_observe.specs.Marks.{Marked}
@@ -28,16 +28,11 @@ behind_all before s (told ∷ rest) = behind_all before (line_next before s told
 abbrev pub judged_line : NodeId → Watched → Marked → LineState
 judged_line home w marks = record { home = home; aside = false; lacking = lacks.Nothing; told = FromStart w; marks = marks }
 
--- flits that have no words of the line
-abbrev pub all_wordless : List (ℕ × Flit) → Bool
-all_wordless [] = true
-all_wordless (flit ∷ rest) = is_wordless flit.1 && all_wordless rest
-
 abbrev pub told_of : List (ℕ × Flit) → List (ℕ × LineNews)
 told_of [] = []
 told_of (flit ∷ rest) = (flit.0, news.Flit (Some flit.1)) ∷ told_of rest
 
--- they stand between the first beat and the last one, or behind the data
+-- flits of the line between the first beat of data and the last one, or behind the whole data
 abbrev pub in_beats : ℕ → ℕ → Flit → List Bool → List ℕ → List (ℕ × Flit) → List (ℕ × LineNews)
 in_beats first last flit lacking words between = (first, news.Begun flit lacking) ∷ (told_of between ++ ((last, news.Ended (Some (flit_with flit words))) ∷ []))
 
@@ -50,7 +45,9 @@ pub record AreAlike (before : Before) (home : NodeId) (s : LineState) (one other
   pub told : takes_all before home s one ≡ true → (behind_all before s one).told ≡ (behind_all before s other).told
 
 -- THE LAW
+-- none of those flits sets the line aside
 abbrev pub BeatsAreOneFlit : Type 0
 BeatsAreOneFlit = (before : Before) (own home : NodeId) (w : Watched) (marks : Marked) (flit : Flit) (lacking : List Bool) (words : List ℕ) (between : List (ℕ × Flit)) (first last : ℕ)
-    → wanted w flit ≢ wants.Nothing → words_with (flit_words flit) words lacking ≡ words → all_wordless between ≡ true
+    → wanted w flit ≢ wants.Nothing → words_with (flit_words flit) words lacking ≡ words
+    → (behind_all before (judged_line own w marks) (in_beats first last flit lacking words between)).aside ≡ false
     → AreAlike before home (judged_line own w marks) (in_beats first last flit lacking words between) (in_one first flit words between)
