@@ -45,7 +45,8 @@ pub record AreAlike (before : Before) (home : NodeId) (s : LineState) (one other
   pub told : takes_all before home s one ≡ true → (behind_all before s one).told ≡ (behind_all before s other).told
 
 -- THE LAW
--- none of those flits sets the line aside
+-- of data that the line is told of at their first beat, which has the words that don't lack, and of flits between their beats
+-- of which none sets the line aside
 abbrev pub BeatsAreOneFlit : Type 0
 BeatsAreOneFlit = (before : Before) (own home : NodeId) (w : Watched) (marks : Marked) (flit : Flit) (lacking : List Bool) (words : List ℕ) (between : List (ℕ × Flit)) (first last : ℕ)
     → wanted w flit ≢ wants.Nothing → words_with (flit_words flit) words lacking ≡ words

@@ -13,9 +13,9 @@ pub fn a_watch_stays_in_its_room()
     ensures stays { StaysWithin }
 {}
 
-/// The law that a line which is judged from the trace's beginning, where stores may be hidden, takes data in beats, and flits
-/// between the beats of which none sets it aside, exactly where it takes the data with all words in the place of the first
-/// beat, and those flits behind; and that what is told then is the same.
+/// The law that a line which is judged from the trace's beginning, where stores may be hidden, takes data in beats that it is
+/// told of at the first one, and flits between the beats of which none sets it aside, exactly where it takes the data with
+/// all words in the place of the first beat, and those flits behind; and that what is told then is the same.
 /// Source: `docs/OBSERVER.md`, "Data in beats".
 pub fn beats_are_one_flit()
     ensures { BeatsAreOneFlit }
