@@ -20,6 +20,7 @@ use Rattle.chi_observer.specs.declared.flits.Answer.{Answer}
 use Rattle.chi_observer.specs.declared.flits.Act.{Act}
 use Rattle.chi_observer.specs.declared.flits.Grant.{Grant}
 use Rattle.chi_observe.specs.declared.events.Tells.{Tells}
+use Rattle.chi_observe.specs.declared.ids.Later.{Later}
 use Rattle.chi_observe.specs.declared.ids.OpenId.{OpenId}
 use Rattle.chi_observe.specs.declared.ids.KeyNumbers.{KeyNumbers}
 use Rattle.chi_observe.specs.declared.credits.Account.{Account}
@@ -49,6 +50,7 @@ use Rattle.chi_observer.specs.contracts.flits.AnswerPartialEq.TheImpl as answer_
 use Rattle.chi_observer.specs.contracts.flits.ActPartialEq.TheImpl as act_eq
 use Rattle.chi_observer.specs.contracts.flits.GrantPartialEq.TheImpl as grant_eq
 use Rattle.chi_observe.specs.contracts.events.TellsPartialEq.TheImpl as tells_eq
+use Rattle.chi_observe.specs.contracts.ids.LaterPartialEq.TheImpl as later_eq
 use Rattle.chi_observe.specs.contracts.ids.OpenIdPartialEq.TheImpl as id_eq
 use Rattle.chi_observe.specs.contracts.ids.KeyNumbersPartialEq.TheImpl as key_numbers_eq
 use Rattle.chi_observe.specs.contracts.credits.AccountPartialEq.TheImpl as account_eq
@@ -108,12 +110,15 @@ grant a b = search (rules, arith, snoop, state)
 pub tells : (a b : Tells) → Decides (tells_eq.eq-value.it a b) (a ≡ b)
 tells a b = search (rules, arith, act, grant, words, resp)
 
+later : (a b : Later) → Decides (later_eq.eq-value.it a b) (a ≡ b)
+later a b = search (rules, arith)
+
 pub id : (a b : OpenId) → Decides (id_eq.eq-value.it a b) (a ≡ b)
 id a b =
     Decides-like (id_eq.eq-value.it a b)
-    (λ h i. record { key = h.0 i; line = h.1.0 i; purpose = h.1.1.0 i; waits_for = h.1.1.1.0 i; lacks = h.1.1.1.1.0 i; begun = h.1.1.1.1.1.0 i; dbid = h.1.1.1.1.1.1.0 i; since = h.1.1.1.1.1.1.1 i })
-    (λ e. (ap (λ x. x.key) e, (ap (λ x. x.line) e, (ap (λ x. x.purpose) e, (ap (λ x. x.waits_for) e, (ap (λ x. x.lacks) e, (ap (λ x. x.begun) e, (ap (λ x. x.dbid) e, ap (λ x. x.since) e))))))))
-    (Decides-and _ _ (key a.key b.key) (Decides-and _ _ (line a.line b.line) (Decides-and _ _ (purpose a.purpose b.purpose) (Decides-and _ _ (optional _ pcrd a.waits_for b.waits_for) (Decides-and _ _ (optional _ marks a.lacks b.lacks) (Decides-and _ _ (optional _ tells a.begun b.begun) (Decides-and _ _ (optional _ dbid a.dbid b.dbid) (Decides-eqb a.since b.since))))))))
+    (λ h i. record { key = h.0 i; line = h.1.0 i; purpose = h.1.1.0 i; waits_for = h.1.1.1.0 i; lacks = h.1.1.1.1.0 i; begun = h.1.1.1.1.1.0 i; later = h.1.1.1.1.1.1.0 i; dbid = h.1.1.1.1.1.1.1.0 i; since = h.1.1.1.1.1.1.1.1 i })
+    (λ e. (ap (λ x. x.key) e, (ap (λ x. x.line) e, (ap (λ x. x.purpose) e, (ap (λ x. x.waits_for) e, (ap (λ x. x.lacks) e, (ap (λ x. x.begun) e, (ap (λ x. x.later) e, (ap (λ x. x.dbid) e, ap (λ x. x.since) e)))))))))
+    (Decides-and _ _ (key a.key b.key) (Decides-and _ _ (line a.line b.line) (Decides-and _ _ (purpose a.purpose b.purpose) (Decides-and _ _ (optional _ pcrd a.waits_for b.waits_for) (Decides-and _ _ (optional _ marks a.lacks b.lacks) (Decides-and _ _ (optional _ tells a.begun b.begun) (Decides-and _ _ (later a.later b.later) (Decides-and _ _ (optional _ dbid a.dbid b.dbid) (Decides-eqb a.since b.since)))))))))
 
 pub key_numbers : (a b : KeyNumbers) → Decides (key_numbers_eq.eq-value.it a b) (a ≡ b)
 key_numbers a b = search (rules, arith)

@@ -1,5 +1,5 @@
 -- Marks, lines and watches are the same where each part is.
-use Rattle.std.proofs.Common.{rules, arith, ◌≡◌, ◌==◌, ◌&&◌, ℕ, Bool, ap, sym, ◌∙◌}
+use Rattle.std.proofs.Common.{rules, arith, ◌≡◌, ◌==◌, ◌&&◌, List, ℕ, Bool, ap, sym, ◌∙◌}
 use Rattle.std.specs.Bool.{Decides}
 use Rattle.std.proofs.lemmas.Bool.Decides.{Decides-and, Decides-eqb, Decides-like}
 use mathlib.Core.Bool.{beq}
@@ -18,7 +18,8 @@ use Rattle.chi_observe.specs.Watched.{Watched}
 use Rattle.chi_observe.specs.contracts.bounded.RoomPartialEq.TheImpl as room_eq
 use Rattle.chi_observe.specs.contracts.lines.LackingPartialEq.TheImpl as lacking_eq
 use Rattle.chi_observe.specs.declared.lines.Lacking.{Lacking}
-use Rattle.chi_observe.proofs.EqualFlits.{mark, node}
+use Rattle.chi_observe.specs.declared.lines.Lacking.TheVariants as lacks
+use Rattle.chi_observe.proofs.EqualFlits.{mark, marks, node}
 use Rattle.chi_observe.proofs.EqualIds.{room}
 
 -- what judges a line
@@ -73,15 +74,40 @@ marks_same a b r h =
     (Decides-and _ _ (Decides-and _ _ (Decides-eqb a.first b.first) (Decides-eqb a.words b.words)) h)
 
 -- lines
-lacking : (a b : Lacking) → Decides (lacking_eq.eq-value.it a b) (a ≡ b)
-lacking a b = search (rules, arith)
+unknown_of : List Bool → Lacking → List Bool
+unknown_of other (lacks.Words unknown others had) = unknown
+unknown_of other lacking = other
 
-pub line_same : (a b : LineState) (j m : Bool) → Decides j (a.told ≡ b.told) → Decides m (a.marks ≡ b.marks) → Decides ((((node_eq.eq-value.it a.home b.home && beq a.aside b.aside) && lacking_eq.eq-value.it a.lacking b.lacking) && j) && m) (a ≡ b)
-line_same a b j m told marks =
-    Decides-like ((((node_eq.eq-value.it a.home b.home && beq a.aside b.aside) && lacking_eq.eq-value.it a.lacking b.lacking) && j) && m)
+others_of : ℕ → Lacking → ℕ
+others_of other (lacks.Words unknown others had) = others
+others_of other lacking = other
+
+had_of : Bool → Lacking → Bool
+had_of other (lacks.Words unknown others had) = had
+had_of other lacking = other
+
+pub lacking : (a b : Lacking) → Decides (lacking_eq.eq-value.it a b) (a ≡ b)
+unfolding unknown_of others_of had_of
+lacking (lacks.Words u n p) (lacks.Words v m q) =
+    Decides-like (lacking_eq.eq-value.it (lacks.Words u n p) (lacks.Words v m q))
+    (λ e i. lacks.Words (e.0 i) (e.1.0 i) (e.1.1 i))
+    (λ e. (ap (unknown_of u) e, (ap (others_of n) e, ap (had_of p) e)))
+    (Decides-and _ _ (marks u v) (Decides-and _ _ (Decides-eqb n m) (mark p q)))
+lacking (lacks.Words u n p) lacks.Nothing = search (rules, arith)
+lacking (lacks.Words u n p) lacks.Data = search (rules, arith)
+lacking lacks.Nothing (lacks.Words v m q) = search (rules, arith)
+lacking lacks.Data (lacks.Words v m q) = search (rules, arith)
+lacking lacks.Nothing lacks.Nothing = search (rules, arith)
+lacking lacks.Nothing lacks.Data = search (rules, arith)
+lacking lacks.Data lacks.Nothing = search (rules, arith)
+lacking lacks.Data lacks.Data = search (rules, arith)
+
+pub line_same : (a b : LineState) (l j m : Bool) → Decides l (a.lacking ≡ b.lacking) → Decides j (a.told ≡ b.told) → Decides m (a.marks ≡ b.marks) → Decides ((((node_eq.eq-value.it a.home b.home && beq a.aside b.aside) && l) && j) && m) (a ≡ b)
+line_same a b l j m lacks told marks =
+    Decides-like ((((node_eq.eq-value.it a.home b.home && beq a.aside b.aside) && l) && j) && m)
     (λ e i. record { home = e.0.0.0.0 i; aside = e.0.0.0.1 i; lacking = e.0.0.1 i; told = e.0.1 i; marks = e.1 i })
     (λ e. ((((ap (λ s. s.home) e, ap (λ s. s.aside) e), ap (λ s. s.lacking) e), ap (λ s. s.told) e), ap (λ s. s.marks) e))
-    (Decides-and _ _ (Decides-and _ _ (Decides-and _ _ (Decides-and _ _ (node a.home b.home) (mark a.aside b.aside)) (lacking a.lacking b.lacking)) told) marks)
+    (Decides-and _ _ (Decides-and _ _ (Decides-and _ _ (Decides-and _ _ (node a.home b.home) (mark a.aside b.aside)) lacks) told) marks)
 
 -- what is said of two things says it of what is the same as they
 pub moved : {X : Type 0} (a a' b b' : X) (r : Bool) → a ≡ a' → b ≡ b' → Decides r (a ≡ b) → Decides r (a' ≡ b')

@@ -295,7 +295,9 @@ first_lines false n = omega arith
 lines_after : (part : Part) (mark : Option Aside) (fresh : Bool) (n : Counts) → (counts_after part mark fresh n).lines ≤ n.lines + number_of fresh
 lines_after parts.Whole mark fresh n = omega (arith, aside_lines mark (counts_first fresh n), first_lines fresh n)
 lines_after (parts.First left) mark fresh n = omega (arith, aside_lines mark (counts_first fresh n), first_lines fresh n)
+lines_after (parts.Known tells) mark fresh n = omega (arith, aside_lines mark (counts_first fresh n), first_lines fresh n)
 lines_after parts.Further mark fresh n = omega (arith, aside_lines mark n)
+lines_after (parts.Held same) mark fresh n = omega (arith, aside_lines mark n)
 lines_after (parts.Last tells) mark fresh n = omega (arith, aside_lines mark n)
 
 lines_within : {S : Type 0} (found : Option S) (lines most : ℕ) → lines ≤ most → (is_some found || nat_lt lines most) ≡ true → lines + number_of (is_none found) ≤ most
@@ -358,6 +360,8 @@ module _ (room : Room) (w w' : Watched) (h : IsWithin room w) where
     part_within : (part : Part) → rest_fits room w e change part ≡ true → by_part w e change part ≡ Some w' → IsWithin room w'
     part_within parts.Whole fits q = told_within fits q
     part_within (parts.First left) fits q = told_within fits q
+    part_within (parts.Known tells) fits q = told_within fits q
+    part_within (parts.Held same) fits q = told_within fits q
     part_within parts.Further fits q = subst (IsWithin room) (same_some _ _ q) beat_within
     part_within (parts.Last tells) fits q = told_within fits q
 

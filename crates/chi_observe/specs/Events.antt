@@ -1,6 +1,5 @@
 -- What a flit of a line tells its observer (docs/OBSERVER.md, "A trace of many lines").
-use Rattle.std.specs.Prelude.{ℕ, Bool, false, List, [], ◌∷◌, Option, Some, None, if◌then◌else◌, is_some, replicate}
-use Rattle.std.specs.List.{slice_index_or}
+use Rattle.std.specs.Prelude.{ℕ, Bool, List, Option, Some, None, if◌then◌else◌, is_some, replicate}
 use Rattle.chi_flit.specs.declared.numbers.Agent.{Agent}
 use Rattle.chi_observer.specs.declared.flits.Flit.{Flit}
 use Rattle.chi_observer.specs.declared.flits.Flit.TheVariants.{Up, Down}
@@ -37,21 +36,6 @@ with_words (Given grant other) words = Given grant words
 with_words Unjudged words = Unjudged
 with_words (NoForm resp) words = NoForm resp
 
--- words in the places of those that are there
-abbrev pub word_at : List Bool → ℕ → Bool
-word_at words n = slice_index_or words n false
-
-abbrev pub word_with : ℕ → ℕ → Bool → ℕ
-word_with old new there = if there then new else old
-
-abbrev pub word_behind : List ℕ → List ℕ → List Bool → ℕ → ℕ
-word_behind old new there n = word_with (slice_index_or old n 0) (slice_index_or new n 0) (word_at there n)
-
-abbrev pub words_with : List ℕ → List ℕ → List Bool → List ℕ
-words_with old new there =
-    word_behind old new there 0 ∷ word_behind old new there 1 ∷ word_behind old new there 2 ∷ word_behind old new there 3
-    ∷ word_behind old new there 4 ∷ word_behind old new there 5 ∷ word_behind old new there 6 ∷ word_behind old new there 7 ∷ []
-
 abbrev pub flit_by : Tells → Option Agent → Option Flit
 flit_by tells None = None
 flit_by tells (Some agent) = told_by tells agent
@@ -66,8 +50,14 @@ abbrev pub ended_by : Option Flit → LineNews
 ended_by None = news.Ended None
 ended_by (Some flit) = if is_some (shows_words flit) then news.Ended (Some flit) else news.Nothing
 
+abbrev pub early_by : Option Flit → LineNews
+early_by None = news.Flit None
+early_by (Some flit) = news.Early flit
+
 abbrev pub news_of : Tells → Part → Option Agent → LineNews
 news_of tells parts.Whole agent = news.Flit (flit_by tells agent)
 news_of tells (parts.First lacks) agent = begun_by (flit_by tells agent) lacks
+news_of tells (parts.Known told) agent = early_by (flit_by told agent)
 news_of tells parts.Further agent = news.Flit (flit_by tells agent)
+news_of tells (parts.Held same) agent = news.Held same
 news_of tells (parts.Last told) agent = ended_by (flit_by told agent)

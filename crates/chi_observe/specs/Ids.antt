@@ -7,6 +7,7 @@ use Rattle.chi_observe.specs.declared.ids.CacheLine.{CacheLine}
 use Rattle.chi_observe.specs.declared.ids.IdKey.{IdKey}
 use Rattle.chi_observe.specs.declared.ids.IdKey.TheVariants.{Request, Buffer, Snoop, Retried}
 use Rattle.chi_observe.specs.declared.ids.KeyNumbers.{KeyNumbers}
+use Rattle.chi_observe.specs.declared.ids.Later.TheVariants.{Told}
 use Rattle.chi_observe.specs.declared.ids.OpenId.{OpenId}
 use Rattle.chi_observe.specs.declared.ids.Sides.{Sides}
 use Rattle.chi_observe.specs.declared.ids.Purpose.{Purpose}
@@ -65,7 +66,7 @@ is_alike key other = alike_numbers (numbers_of key) (numbers_of other)
 
 -- an id that is opened
 abbrev pub opened_id : IdKey → CacheLine → Purpose → OpenId
-opened_id key line purpose = record { key = key; line = line; purpose = purpose; waits_for = None; lacks = None; begun = None; dbid = None; since = 0 }
+opened_id key line purpose = record { key = key; line = line; purpose = purpose; waits_for = None; lacks = None; begun = None; later = Told; dbid = None; since = 0 }
 
 -- the ids without that of a key, if one is free; the last takes its place
 abbrev pub without : Option IdKey → List (KeyNumbers × OpenId) → List (KeyNumbers × OpenId)

@@ -1,18 +1,22 @@
 -- Data in beats are judged as whole data in the place of their first beat (docs/OBSERVER.md, "Data in beats").
-use Rattle.std.specs.Prelude.{◌≡◌, ◌≢◌, ℕ, Bool, true, false, ◌&&◌, List, [], ◌∷◌, ◌++◌, Some}
+use Rattle.std.specs.Prelude.{◌≡◌, ◌≢◌, ℕ, Bool, true, false, ◌&&◌, ◌||◌, not, List, [], ◌∷◌, ◌++◌, Option, Some, None, nat_eq}
+use Rattle.std.specs.Cmp.Lexicographic.{pointwise}
 use Rattle.chi_trace.specs.declared.fields.NodeId.{NodeId}
 use Rattle.chi_observer.specs.declared.flits.Flit.{Flit}
+use Rattle.chi_observer.specs.declared.wanted.Wanted.{Wanted}
 use Rattle.chi_observer.specs.declared.wanted.Wanted.TheVariants as wants
 use Rattle.chi_observer.specs.Lines.{Watched}
-use Rattle.chi_observer.specs.Wanted.{flit_with, flit_words, wanted}
+use Rattle.chi_observer.specs.Wanted.{flit_with, flit_words, is_wordless, wanted}
+use Rattle.chi_observe.specs.declared.ids.Later.{Later}
+use Rattle.chi_observe.specs.declared.ids.Later.TheVariants as laters
 use Rattle.chi_observe.specs.declared.lines.Lacking.TheVariants as lacks
 use Rattle.chi_observe.specs.declared.lines.LineNews.{LineNews}
 use Rattle.chi_observe.specs.declared.lines.LineNews.TheVariants as news
-use Rattle.chi_observe.specs.Events.{words_with}
 use Rattle.chi_observe.specs.Judges.{Before}
 use Rattle.chi_observe.specs.Judges.Judged.{FromStart}
-use Rattle.chi_observe.specs.Lines.{LineState, line_next, takes_line}
+use Rattle.chi_observe.specs.Lines.{LineState, early_of, line_next, takes_line}
 use Rattle.chi_observe.specs.Marks.{Marked}
+use Rattle.chi_observe.specs.Words.{words_with}
 
 -- a line is told of flits between this home and caches, each with its number in the trace: whether it takes them all, and
 -- what it is behind them
@@ -32,12 +36,30 @@ abbrev pub told_of : List (ℕ × Flit) → List (ℕ × LineNews)
 told_of [] = []
 told_of (flit ∷ rest) = (flit.0, news.Flit (Some flit.1)) ∷ told_of rest
 
--- flits of the line between the first beat of data and the last one, or behind the whole data
-abbrev pub in_beats : ℕ → ℕ → Flit → List Bool → List ℕ → List (ℕ × Flit) → List (ℕ × LineNews)
-in_beats first last flit lacking words between = (first, news.Begun flit lacking) ∷ (told_of between ++ ((last, news.Ended (Some (flit_with flit words))) ∷ []))
+-- flits of the line between the first beat of data and the last one: the line is told of the data at the first, and the
+-- last one's words are the known ones or others; or they may be any, and are known with the last
+abbrev pub are_held : Later → List ℕ → List ℕ → Bool
+are_held laters.Held known words = pointwise nat_eq known words
+are_held other known words = true
 
+abbrev pub in_two : Option (Later × List ℕ) → ℕ → ℕ → Flit → List Bool → List ℕ → List (ℕ × LineNews) → List (ℕ × LineNews)
+in_two None first last flit lacking words between = (first, news.Begun flit lacking) ∷ (between ++ ((last, news.Ended (Some (flit_with flit words))) ∷ []))
+in_two (Some early) first last flit lacking words between = (first, news.Early (flit_with flit early.1)) ∷ (between ++ ((last, news.Held (are_held early.0 early.1 words)) ∷ []))
+
+abbrev pub in_beats : LineState → ℕ → ℕ → Flit → List Bool → List ℕ → List (ℕ × Flit) → List (ℕ × LineNews)
+in_beats s first last flit lacking words between = in_two (early_of s flit lacking) first last flit lacking words (told_of between)
+
+-- and behind the whole data
 abbrev pub in_one : ℕ → Flit → List ℕ → List (ℕ × Flit) → List (ℕ × LineNews)
 in_one first flit words between = (first, news.Flit (Some (flit_with flit words))) ∷ told_of between
+
+abbrev pub all_wordless : List (ℕ × Flit) → Bool
+all_wordless [] = true
+all_wordless (flit ∷ rest) = is_wordless flit.1 && all_wordless rest
+
+abbrev pub is_told_any : Wanted → Bool
+is_told_any wants.Any = true
+is_told_any other = false
 
 -- all of the one are taken where all of the other are, and what is told behind them is the same
 pub record AreAlike (before : Before) (home : NodeId) (s : LineState) (one other : List (ℕ × LineNews)) : Type 0 where
@@ -45,10 +67,10 @@ pub record AreAlike (before : Before) (home : NodeId) (s : LineState) (one other
   pub told : takes_all before home s one ≡ true → (behind_all before s one).told ≡ (behind_all before s other).told
 
 -- THE LAW
--- of data that the line is told of at their first beat, which has the words that don't lack, and of flits between their beats
--- of which none sets the line aside
+-- of data that the line is told of at their first beat, which has the words that don't lack, and of any flits between their
+-- beats; where the words may be any and are told, of such as have no words of the line and are no loads
 abbrev pub BeatsAreOneFlit : Type 0
 BeatsAreOneFlit = (before : Before) (own home : NodeId) (w : Watched) (marks : Marked) (flit : Flit) (lacking : List Bool) (words : List ℕ) (between : List (ℕ × Flit)) (first last : ℕ)
     → wanted w flit ≢ wants.Nothing → words_with (flit_words flit) words lacking ≡ words
-    → (behind_all before (judged_line own w marks) (in_beats first last flit lacking words between)).aside ≡ false
-    → AreAlike before home (judged_line own w marks) (in_beats first last flit lacking words between) (in_one first flit words between)
+    → (not (is_told_any (wanted w flit)) || all_wordless between) ≡ true
+    → AreAlike before home (judged_line own w marks) (in_beats (judged_line own w marks) first last flit lacking words between) (in_one first flit words between)

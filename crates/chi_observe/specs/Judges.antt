@@ -1,7 +1,7 @@
 -- What judges the flits of a line: from the trace's beginning, where all stores are listed by its words too
 -- (docs/OBSERVER.md, "Stores that are listed"), from the middle of a longer one (docs/OBSERVER.md, "A trace that begins in
 -- the middle"), or where the home receives them (docs/OBSERVER.md, "Seen at the home").
-use Rattle.std.specs.Prelude.{ℕ, zero, suc, Bool, true, false, not, List, Some, Result, Ok, Err, nat_lt, if◌then◌else◌}
+use Rattle.std.specs.Prelude.{ℕ, zero, suc, Bool, true, false, not, List, Result, Ok, Err, nat_lt, if◌then◌else◌}
 use Rattle.std.specs.List.{slice_index_or}
 use Rattle.chi_observer.specs.declared.flits.Flit.{Flit}
 use Rattle.chi_observer.specs.declared.flits.Stores.{Stores}
@@ -136,14 +136,14 @@ told_in (FromMiddle b synced) = b.seen
 told_in (AtHome a) = a.line
 
 -- what the words of data have to be that come in beats, where the line is told of them at their first one: where all stores
--- are listed, of those that have to be known
-abbrev pub only_known : Wanted → Wanted
-only_known wants.Known = wants.Known
-only_known other = wants.Nothing
+-- are listed, not of those that may be any and are told
+abbrev pub but_any : Wanted → Wanted
+but_any wants.Any = wants.Nothing
+but_any other = other
 
 abbrev pub wanted_in : Judged → Flit → Wanted
 wanted_in (FromStart w) flit = wanted w flit
-wanted_in (FromListed l) flit = only_known (wanted l.line flit)
+wanted_in (FromListed l) flit = but_any (wanted l.line flit)
 wanted_in told flit = wants.Nothing
 
 -- the home has these words

@@ -15,10 +15,11 @@ use Rattle.chi_observe.specs.declared.ids.Sides.{Sides}
 use Rattle.chi_observe.specs.declared.steps.IdStep.{IdStep}
 use Rattle.chi_observe.specs.declared.steps.IdStep.TheVariants.{CompleteWith, ReadData, AnswerData, WriteData, UnknownAnswer, UnknownReply}
 use Rattle.chi_observe.specs.declared.steps.WatchOptions.{WatchOptions}
-use Rattle.chi_observe.specs.Beats.{is_again, left_of}
+use Rattle.chi_observe.specs.Beats.{is_again}
 use Rattle.chi_observe.specs.Ids.{id_of, opened_id, with_id, without}
 use Rattle.chi_observe.specs.Judges.{is_cut}
 use Rattle.chi_observe.specs.Nodes.{is_node}
+use Rattle.chi_observe.specs.Words.{left_of}
 
 -- the words that a beat has
 abbrev pub words_there : IdStep → Option (List Bool)

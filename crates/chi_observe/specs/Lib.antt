@@ -13,6 +13,7 @@ pub mod Lines
 pub mod Events
 pub mod Nodes
 pub mod Watched
+pub mod Words
 pub mod Seen
 pub mod Bounded
 pub mod Benches

@@ -1,15 +1,21 @@
 -- What is known of each line of memory (docs/OBSERVER.md, "A trace of many lines").
-use Rattle.std.specs.Prelude.{◌≡◌, ℕ, zero, suc, ◌+◌, ◌==◌, ◌&&◌, ◌||◌, Bool, true, false, not, List, Option, Some, None, Result, Ok, Err, if◌then◌else◌, is_none, is_some, nat_eq, nat_lt, option_map, unwrap_or}
+use Rattle.std.specs.Prelude.{◌≡◌, ℕ, zero, suc, ◌+◌, ◌==◌, ◌&&◌, ◌||◌, Bool, true, false, not, List, Option, Some, None, Result, Ok, Err, if◌then◌else◌, is_none, is_some, nat_eq, nat_lt, option_map, replicate, unwrap_or}
+use Rattle.std.specs.List.{slice_index_or}
 use Rattle.std.specs.Map.{lookup}
+use Rattle.chi_flit.specs.declared.numbers.WordNo.{WordNo}
 use Rattle.chi_trace.specs.declared.fields.NodeId.{NodeId}
+use Rattle.chi_observer.specs.declared.flits.Act.{Act}
+use Rattle.chi_observer.specs.declared.flits.Act.TheVariants.{Load}
+use Rattle.chi_observer.specs.declared.flits.CacheFlit.{CacheFlit}
 use Rattle.chi_observer.specs.declared.flits.Flit.{Flit}
 use Rattle.chi_observer.specs.declared.flits.Flit.TheVariants.{Up, Down}
 use Rattle.chi_observer.specs.declared.observer.Reason.TheVariants.{OtherWords}
 use Rattle.chi_observer.specs.declared.wanted.Wanted.{Wanted}
 use Rattle.chi_observer.specs.declared.wanted.Wanted.TheVariants as wants
-use Rattle.chi_observer.specs.Rules.{looks}
-use Rattle.chi_observer.specs.Wanted.{flit_with, flit_words}
+use Rattle.chi_observer.specs.Wanted.{reads_home}
 use Rattle.chi_observe.specs.declared.ids.CacheLine.{CacheLine}
+use Rattle.chi_observe.specs.declared.ids.Later.{Later}
+use Rattle.chi_observe.specs.declared.ids.Later.TheVariants as laters
 use Rattle.chi_observe.specs.declared.lines.Lacking.{Lacking}
 use Rattle.chi_observe.specs.declared.lines.Lacking.TheVariants as lacks
 use Rattle.chi_observe.specs.declared.lines.LineSeen.{LineSeen}
@@ -20,10 +26,10 @@ use Rattle.chi_observe.specs.declared.lines.LineTold.{LineTold}
 use Rattle.chi_observe.specs.declared.lines.LineStop.TheVariants.{Refused, NoMemory}
 use Rattle.chi_observe.specs.declared.reasons.LineReason.{LineReason}
 use Rattle.chi_observe.specs.declared.reasons.LineReason.TheVariants.{OtherHome, Rule}
-use Rattle.chi_observe.specs.Events.{words_with}
 use Rattle.chi_observe.specs.Judges.{Before, Judged, Verdict, holds, is_judge_reason, judged, opened_from, told_in, verdict, wanted_in, worded}
 use Rattle.chi_observe.specs.Judges.Verdict.{Known, Faulty, LeftOpen}
-use Rattle.chi_observe.specs.Marks.{Marked, is_known, marked, marks_after, nothing_marked, shows_words, teller_of}
+use Rattle.chi_observe.specs.Words.{agrees, but_one, lacks_some, left_of, no_words, unknown_behind, words_with}
+use Rattle.chi_observe.specs.Marks.{Marked, marked, marks_after, nothing_marked, shows_words, teller_of}
 
 -- its home, whether it isn't judged any more, what data of it lack that come in beats, and what its flits have told, and by
 -- which lines of the trace
@@ -91,28 +97,75 @@ flit_next before s number (Some flit) = if s.aside then s else next_by (verdict 
 
 -- Data that come in beats (docs/OBSERVER.md, "Data in beats") are told at their first one, where it is known what the words
 -- that lack have to be, or where they may be any; else at their last one, and what comes between sets the line aside.
-abbrev pub is_load : Flit → Bool
-is_load (Up sent) = looks sent.act
-is_load (Down given) = false
+-- a flit's words, a load's in the place of each; the flit with other ones; and the words that a whole one lacks
+abbrev pub shown_by : Act → List ℕ → List ℕ
+shown_by (Load word) shown = replicate 8 word.value
+shown_by act shown = shown
 
--- what lacks behind the first beat of data, if the line is told of them, and behind their last one
-abbrev pub lacking_with : Lacking → Wanted → Option Lacking
-lacking_with lacks.Nothing wants.Known = Some (lacks.Known 0)
-lacking_with lacks.Nothing wants.Any = Some lacks.Any
-lacking_with (lacks.Known others) wants.Known = if nat_lt others 255 then Some (lacks.Known (others + 1)) else None
-lacking_with lacking wanted = None
+abbrev pub shown_words : Flit → List ℕ
+shown_words (Up sent) = shown_by sent.act sent.shown
+shown_words (Down given) = given.shown
 
-abbrev pub known_without : ℕ → Lacking
-known_without zero = lacks.Nothing
-known_without (suc others) = lacks.Known others
+abbrev pub word_in : List ℕ → WordNo → ℕ
+word_in words place = slice_index_or words place.0 0
+
+abbrev pub sent_with : CacheFlit → Act → List ℕ → Flit
+sent_with sent (Load word) words = Up (record sent { act = Load (record word { value = word_in words word.place }) })
+sent_with sent act words = Up (record sent { shown = words })
+
+abbrev pub with_shown : Flit → List ℕ → Flit
+with_shown (Up sent) words = sent_with sent sent.act words
+with_shown (Down given) words = Down (record given { shown = words })
+
+abbrev pub lacks_by : Act → List Bool
+lacks_by (Load word) = but_one word.place.0
+lacks_by act = no_words
+
+abbrev pub lacks_of : Flit → List Bool
+lacks_of (Up sent) = lacks_by sent.act
+lacks_of (Down given) = no_words
+
+-- the words that no flit has shown, and those behind one that lacks such words
+abbrev pub unknown_in : Lacking → List Bool
+unknown_in (lacks.Words unknown others had) = unknown
+unknown_in lacking = no_words
+
+-- the home doesn't show words before it has them
+abbrev pub is_given : Flit → Bool
+is_given (Up sent) = false
+is_given (Down given) = true
+
+abbrev pub may_show : Lacking → Bool → List Bool → Bool
+may_show (lacks.Words unknown others had) given lacking = not given || (had || not (lacks_some (left_of unknown lacking)))
+may_show other given lacking = true
+
+-- what lacks behind the first beat of data, if the line is told of them; behind their last one; and behind another flit
+abbrev pub lacking_with : Lacking → Wanted → Bool → List Bool → Option Lacking
+lacking_with lacks.Nothing wants.Any given lacking = Some (lacks.Words lacking 0 given)
+lacking_with (lacks.Words unknown others had) wants.Known given lacking =
+    if may_show (lacks.Words unknown others had) given lacking && nat_lt others 255 then Some (lacks.Words (unknown_behind unknown lacking) (others + 1) had) else None
+lacking_with lacking wanted given words = None
+
+abbrev pub words_without : ℕ → Bool → Lacking
+words_without zero had = lacks.Nothing
+words_without (suc others) had = lacks.Words no_words others had
 
 abbrev pub lacking_without : Lacking → Lacking
-lacking_without (lacks.Known others) = known_without others
+lacking_without (lacks.Words unknown others had) = words_without others had
 lacking_without other = lacks.Nothing
+
+abbrev pub lacking_shown : Lacking → List Bool → Lacking
+lacking_shown (lacks.Words unknown others had) lacking = lacks.Words (unknown_behind unknown lacking) others had
+lacking_shown other lacking = other
 
 abbrev pub is_none_lacking : Lacking → Bool
 is_none_lacking lacks.Nothing = true
 is_none_lacking other = false
+
+abbrev pub is_known_lacking : Lacking → Bool
+is_known_lacking lacks.Nothing = true
+is_known_lacking lacks.Data = false
+is_known_lacking (lacks.Words unknown others had) = not (lacks_some unknown)
 
 abbrev pub wanted_of : LineState → Flit → Wanted
 wanted_of s flit = if s.aside then wants.Nothing else wanted_in s.told flit
@@ -121,82 +174,125 @@ abbrev pub is_wanted_known : Wanted → Bool
 is_wanted_known wants.Known = true
 is_wanted_known other = false
 
--- a flit goes on by itself, whatever words data lack
+abbrev pub is_wanted_free : Wanted → Bool
+is_wanted_free wants.Free = true
+is_wanted_free other = false
+
+-- A flit shows words that have to be the home's, and may; it shows some that lack so far; or it goes on by itself, whatever lacks.
+abbrev pub shows_home : LineState → Flit → Bool
+shows_home s flit = not s.aside && ((is_wanted_known (wanted_in s.told flit) || reads_home (told_in s.told) flit) && may_show s.lacking (is_given flit) (lacks_of flit))
+
+abbrev pub showing_by : Lacking → LineState → Flit → Bool
+showing_by (lacks.Words unknown others had) s flit = shows_home s flit
+showing_by other s flit = false
+
+abbrev pub is_showing : LineState → Option Flit → Bool
+is_showing s None = false
+is_showing s (Some flit) = showing_by s.lacking s flit
+
 abbrev pub apart_of : Lacking → LineState → Flit → Bool
 apart_of lacks.Nothing s flit = true
 apart_of lacks.Data s flit = false
-apart_of (lacks.Known others) s flit = not (is_some (shows_words flit)) || is_wanted_known (wanted_of s flit)
-apart_of lacks.Any s flit = not (is_some (shows_words flit) || is_load flit)
+apart_of (lacks.Words unknown others had) s flit = not (is_some (shows_words flit)) || is_wanted_free (wanted_of s flit)
 
 abbrev pub is_apart : LineState → Option Flit → Bool
 is_apart s None = true
 is_apart s (Some flit) = apart_of s.lacking s flit
 
--- with the home's words in place of those that it lacks
-abbrev pub filled_by : Option (List ℕ) → Flit → List Bool → Flit
-filled_by None flit lacking = flit
-filled_by (Some home) flit lacking = flit_with flit (words_with (flit_words flit) home lacking)
+-- a flit as its line is told of it: with the home's words in place of those that it lacks, and that no flit has shown
+abbrev pub presented_by : Option (List ℕ) → List Bool → Flit → List Bool → Flit
+presented_by None unknown flit lacking = flit
+presented_by (Some home) unknown flit lacking = with_shown flit (words_with (words_with (shown_words flit) home lacking) home unknown)
 
-abbrev pub filled : LineState → Flit → List Bool → Flit
-filled s flit lacking = filled_by (told_in s.told).seen.home flit lacking
+abbrev pub presented : LineState → Flit → List Bool → Flit
+presented s flit lacking = presented_by (told_in s.told).seen.home (unknown_in s.lacking) flit lacking
+
+-- the home has the words that it is the first to show
+abbrev pub refilled : Option (List ℕ) → LineState → Flit → List Bool → LineState
+refilled None s flit lacking = s
+refilled (Some home) s flit lacking = record s { told = worded (words_with home (shown_words flit) (left_of (unknown_in s.lacking) lacking)) s.told }
+
+abbrev pub shown_more : LineState → Flit → List Bool → LineState
+shown_more s flit lacking = refilled (told_in s.told).seen.home s flit lacking
+
+abbrev pub marked_words : ℕ → LineState → LineState
+marked_words number s = record s { marks = record s.marks { words = number } }
+
+abbrev pub shown_next : Before → LineState → ℕ → Flit → List Bool → Lacking → LineState
+shown_next before s number flit words lacking = marked_words number (record (shown_more (flit_next before s number (Some (presented s flit words))) flit words) { lacking = lacking })
+
+-- what the words of data are known to be at their first beat, and what the later ones are then
+abbrev pub early_by : Wanted → LineState → Flit → List Bool → Option (Later × List ℕ)
+early_by wants.Free s flit lacking = Some (laters.Free, shown_words flit)
+early_by wants.Known s flit lacking = if is_known_lacking s.lacking then option_map (λ home. (laters.Held, words_with (shown_words flit) home lacking)) (told_in s.told).seen.home else None
+early_by other s flit lacking = None
+
+abbrev pub early_of : LineState → Flit → List Bool → Option (Later × List ℕ)
+early_of s flit lacking = early_by (wanted_of s flit) s flit lacking
+
+-- what a line takes: a flit between beats or not, the first beat of data, and the last one
+abbrev pub takes_between : Before → LineState → NodeId → ℕ → Option Flit → Bool
+takes_between before s home number None = true
+takes_between before s home number (Some flit) =
+    if is_showing s (Some flit) then takes_flit before s home number (Some (presented s flit (lacks_of flit)))
+    else not (is_apart s (Some flit)) || takes_flit before s home number (Some flit)
 
 abbrev pub takes_begun : Option Lacking → Before → LineState → NodeId → ℕ → Flit → Bool
 takes_begun None before s home number flit = true
 takes_begun (Some lacking) before s home number flit = takes_flit before s home number (Some flit)
 
-abbrev pub lacks_known : Lacking → Bool
-lacks_known (lacks.Known others) = true
-lacks_known other = false
-
-abbrev pub takes_shown : LineState → Option Flit → Bool
-takes_shown s None = true
-takes_shown s (Some flit) = s.aside || (not (lacks_known s.lacking) || is_known (told_in s.told).seen.home (flit_words flit))
+abbrev pub takes_last : LineState → Option Flit → Bool
+takes_last s None = true
+takes_last s (Some flit) = s.aside || agrees (unknown_in s.lacking) (told_in s.told).seen.home (shown_words flit)
 
 abbrev pub takes_ended : Lacking → Before → LineState → NodeId → ℕ → Option Flit → Bool
-takes_ended lacks.Nothing before s home number flit = takes_flit before s home number flit
-takes_ended lacks.Data before s home number flit = takes_flit before s home number flit
-takes_ended (lacks.Known others) before s home number flit = takes_shown s flit
-takes_ended lacks.Any before s home number flit = takes_shown s flit
+takes_ended (lacks.Words unknown others had) before s home number flit = takes_last s flit
+takes_ended other before s home number flit = takes_flit before s home number flit
 
 unfoldable pub takes_line : Before → LineState → NodeId → ℕ → LineNews → Bool
-takes_line before s home number (news.Flit flit) = not (is_apart s flit) || takes_flit before s home number flit
-takes_line before s home number (news.Begun flit lacking) = takes_begun (lacking_with s.lacking (wanted_of s flit)) before s home number (filled s flit lacking)
+takes_line before s home number (news.Flit flit) = takes_between before s home number flit
+takes_line before s home number (news.Early flit) = takes_between before s home number (Some flit)
+takes_line before s home number (news.Begun flit lacking) = takes_begun (lacking_with s.lacking (wanted_of s flit) (is_given flit) lacking) before s home number (presented s flit lacking)
 takes_line before s home number (news.Ended flit) = takes_ended s.lacking before s home number flit
+takes_line before s home number (news.Held same) = s.aside || same
 takes_line before s home number news.Nothing = true
+
+-- and what it is then
+abbrev pub between_next : Before → LineState → ℕ → Option Flit → LineState
+between_next before s number None = put_aside s
+between_next before s number (Some flit) =
+    if is_showing s (Some flit) then shown_next before s number flit (lacks_of flit) (lacking_shown s.lacking (lacks_of flit))
+    else if is_apart s (Some flit) then flit_next before s number (Some flit) else put_aside s
+
+abbrev pub early_next : Before → LineState → ℕ → Flit → LineState
+early_next before s number flit = marked_words s.marks.words (between_next before s number (Some flit))
 
 abbrev pub held_next : LineState → LineState
 held_next s = record s { aside = s.aside || not (is_none_lacking s.lacking); lacking = lacks.Data }
 
--- which line of the trace showed the words is known with their last beat
-abbrev pub told_early : ℕ → Lacking → LineState → LineState
-told_early words lacking s = record s { marks = record s.marks { words = words }; lacking = lacking }
-
-abbrev pub early_next : Before → LineState → ℕ → Flit → Lacking → LineState
-early_next before s number flit lacking = told_early s.marks.words lacking (flit_next before s number (Some flit))
-
-abbrev pub begun_next : Option Lacking → Before → LineState → ℕ → Flit → LineState
-begun_next None before s number flit = held_next s
-begun_next (Some lacking) before s number flit = early_next before s number flit lacking
+abbrev pub begun_next : Option Lacking → Before → LineState → ℕ → Flit → List Bool → LineState
+begun_next None before s number flit words = held_next s
+begun_next (Some lacking) before s number flit words = shown_next before s number flit words lacking
 
 abbrev pub told_next : Before → LineState → ℕ → Option Flit → LineState
 told_next before s number flit = record (flit_next before s number flit) { lacking = lacks.Nothing }
 
-abbrev pub shown_next : LineState → ℕ → Option Flit → LineState
-shown_next s number None = record (put_aside s) { lacking = lacking_without s.lacking }
-shown_next s number (Some flit) =
+abbrev pub last_next : LineState → ℕ → Option Flit → LineState
+last_next s number None = record (put_aside s) { lacking = lacking_without s.lacking }
+last_next s number (Some flit) =
     if s.aside then record s { lacking = lacking_without s.lacking }
-    else record s { told = worded (flit_words flit) s.told; marks = record s.marks { words = number }; lacking = lacking_without s.lacking }
+    else record s { told = worded (shown_words flit) s.told; marks = record s.marks { words = number }; lacking = lacking_without s.lacking }
 
 abbrev pub ended_next : Lacking → Before → LineState → ℕ → Option Flit → LineState
-ended_next lacks.Nothing before s number flit = told_next before s number flit
-ended_next lacks.Data before s number flit = told_next before s number flit
-ended_next (lacks.Known others) before s number flit = shown_next s number flit
-ended_next lacks.Any before s number flit = shown_next s number flit
+ended_next (lacks.Words unknown others had) before s number flit = last_next s number flit
+ended_next other before s number flit = told_next before s number flit
 
 unfoldable pub line_next : Before → LineState → ℕ → LineNews → LineState
-line_next before s number (news.Flit flit) = if is_apart s flit then flit_next before s number flit else put_aside s
-line_next before s number (news.Begun flit lacking) = begun_next (lacking_with s.lacking (wanted_of s flit)) before s number (filled s flit lacking)
+line_next before s number (news.Flit flit) = between_next before s number flit
+line_next before s number (news.Early flit) = early_next before s number flit
+line_next before s number (news.Begun flit lacking) = begun_next (lacking_with s.lacking (wanted_of s flit) (is_given flit) lacking) before s number flit lacking
 line_next before s number (news.Ended flit) = ended_next s.lacking before s number flit
+line_next before s number (news.Held same) = s
 line_next before s number news.Nothing = s
 
 -- it was judged so far, and isn't any more
@@ -209,24 +305,28 @@ is_flit_reason before s home None reason = false
 is_flit_reason before s home (Some flit) (OtherHome other) = not (s.home.0 == home.0)
 is_flit_reason before s home (Some flit) (Rule reason) = is_judge_reason before s.told flit reason
 
+abbrev pub is_between_reason : Before → LineState → NodeId → Option Flit → LineReason → Bool
+is_between_reason before s home None reason = false
+is_between_reason before s home (Some flit) reason = is_flit_reason before s home (if is_showing s (Some flit) then Some (presented s flit (lacks_of flit)) else Some flit) reason
+
 abbrev pub is_begun_reason : Option Lacking → Before → LineState → NodeId → Flit → LineReason → Bool
 is_begun_reason None before s home flit reason = false
 is_begun_reason (Some lacking) before s home flit reason = is_flit_reason before s home (Some flit) reason
 
-abbrev pub is_shown_reason : LineReason → Bool
-is_shown_reason (Rule OtherWords) = true
-is_shown_reason other = false
+abbrev pub is_words_reason : LineReason → Bool
+is_words_reason (Rule OtherWords) = true
+is_words_reason other = false
 
 abbrev pub is_ended_reason : Lacking → Before → LineState → NodeId → Option Flit → LineReason → Bool
-is_ended_reason lacks.Nothing before s home flit reason = is_flit_reason before s home flit reason
-is_ended_reason lacks.Data before s home flit reason = is_flit_reason before s home flit reason
-is_ended_reason (lacks.Known others) before s home flit reason = is_shown_reason reason
-is_ended_reason lacks.Any before s home flit reason = is_shown_reason reason
+is_ended_reason (lacks.Words unknown others had) before s home flit reason = is_words_reason reason
+is_ended_reason other before s home flit reason = is_flit_reason before s home flit reason
 
 unfoldable pub is_line_reason : Before → LineState → NodeId → LineNews → LineReason → Bool
-is_line_reason before s home (news.Flit flit) reason = is_flit_reason before s home flit reason
-is_line_reason before s home (news.Begun flit lacking) reason = is_begun_reason (lacking_with s.lacking (wanted_of s flit)) before s home (filled s flit lacking) reason
+is_line_reason before s home (news.Flit flit) reason = is_between_reason before s home flit reason
+is_line_reason before s home (news.Early flit) reason = is_between_reason before s home (Some flit) reason
+is_line_reason before s home (news.Begun flit lacking) reason = is_begun_reason (lacking_with s.lacking (wanted_of s flit) (is_given flit) lacking) before s home (presented s flit lacking) reason
 is_line_reason before s home (news.Ended flit) reason = is_ended_reason s.lacking before s home flit reason
+is_line_reason before s home (news.Held same) reason = is_words_reason reason
 is_line_reason before s home news.Nothing reason = false
 
 -- a line is told of something that it takes, and is the next one then; or it doesn't take it, for a reason that holds, and
@@ -249,19 +349,29 @@ IsNextOrKept takes reasons old next new (Err NoMemory) = Unit {0}
 abbrev pub IsFlitTold : {A : Type 0} → Before → (old new : LineState) → ℕ → NodeId → Option Flit → Result A LineStop → Type 0
 IsFlitTold before old new number home flit result = IsNextOrKept (takes_flit before old home number flit) (is_flit_reason before old home flit) old (flit_next before old number flit) new result
 
-abbrev pub IsEarlyTold : {A : Type 0} → Before → (old new : LineState) → ℕ → NodeId → Flit → Lacking → Result A LineStop → Type 0
-IsEarlyTold before old new number home flit lacking result = IsNextOrKept (takes_flit before old home number (Some flit)) (is_flit_reason before old home (Some flit)) old (early_next before old number flit lacking) new result
+abbrev pub IsShownTold : {A : Type 0} → Before → (old new : LineState) → ℕ → NodeId → Flit → List Bool → Lacking → Result A LineStop → Type 0
+IsShownTold before old new number home flit words lacking result =
+    IsNextOrKept (takes_flit before old home number (Some (presented old flit words))) (is_flit_reason before old home (Some (presented old flit words))) old (shown_next before old number flit words lacking) new result
+
+abbrev pub IsBetweenTold : {A : Type 0} → Before → (old new : LineState) → ℕ → NodeId → Option Flit → Result A LineStop → Type 0
+IsBetweenTold before old new number home flit result = IsNextOrKept (takes_between before old home number flit) (is_between_reason before old home flit) old (between_next before old number flit) new result
+
+abbrev pub IsEarlyTold : {A : Type 0} → Before → (old new : LineState) → ℕ → NodeId → Flit → Result A LineStop → Type 0
+IsEarlyTold before old new number home flit result = IsNextOrKept (takes_between before old home number (Some flit)) (is_between_reason before old home (Some flit)) old (early_next before old number flit) new result
 
 abbrev pub IsBegunTold : {A : Type 0} → Before → (old new : LineState) → ℕ → NodeId → Flit → List Bool → Result A LineStop → Type 0
-IsBegunTold before old new number home flit lacking result =
-    IsNextOrKept (takes_begun (lacking_with old.lacking (wanted_of old flit)) before old home number (filled old flit lacking)) (is_begun_reason (lacking_with old.lacking (wanted_of old flit)) before old home (filled old flit lacking)) old
-    (begun_next (lacking_with old.lacking (wanted_of old flit)) before old number (filled old flit lacking)) new result
+IsBegunTold before old new number home flit words result =
+    IsNextOrKept (takes_begun (lacking_with old.lacking (wanted_of old flit) (is_given flit) words) before old home number (presented old flit words)) (is_begun_reason (lacking_with old.lacking (wanted_of old flit) (is_given flit) words) before old home (presented old flit words)) old
+    (begun_next (lacking_with old.lacking (wanted_of old flit) (is_given flit) words) before old number flit words) new result
 
 abbrev pub IsHeldTold : {A : Type 0} → Before → (old new : LineState) → ℕ → NodeId → Option Flit → Result A LineStop → Type 0
 IsHeldTold before old new number home flit result = IsNextOrKept (takes_flit before old home number flit) (is_flit_reason before old home flit) old (told_next before old number flit) new result
 
-abbrev pub IsShownTold : {A : Type 0} → (old new : LineState) → ℕ → Option Flit → Result A LineStop → Type 0
-IsShownTold old new number flit result = IsNextOrKept (takes_shown old flit) is_shown_reason old (shown_next old number flit) new result
+abbrev pub IsLastTold : {A : Type 0} → (old new : LineState) → ℕ → Option Flit → Result A LineStop → Type 0
+IsLastTold old new number flit result = IsNextOrKept (takes_last old flit) is_words_reason old (last_next old number flit) new result
+
+abbrev pub IsHoldTold : {A : Type 0} → LineState → Bool → Result A LineStop → Type 0
+IsHoldTold s same result = IsNextOrKept (s.aside || same) is_words_reason s s s result
 
 abbrev pub IsEndTold : {A : Type 0} → Before → (old new : LineState) → ℕ → NodeId → Option Flit → Result A LineStop → Type 0
 IsEndTold before old new number home flit result = IsNextOrKept (takes_ended old.lacking before old home number flit) (is_ended_reason old.lacking before old home flit) old (ended_next old.lacking before old number flit) new result

@@ -115,7 +115,9 @@ opened_by table found dbid change = new_buffer table found dbid >>= λ opens. Ok
 abbrev pub opening : Table → OpenId → Option DbId → Change → Part → Result Change IdReason
 opening table found dbid change parts.Whole = opened_by table found dbid change
 opening table found dbid change (parts.First left) = opened_by table found dbid change
+opening table found dbid change (parts.Known tells) = opened_by table found dbid change
 opening table found dbid change parts.Further = Ok change
+opening table found dbid change (parts.Held same) = Ok change
 opening table found dbid change (parts.Last tells) = Ok change
 
 unfoldable pub read_data : Table → Sides → TxnId → Option DbId → List Bool → Option CacheLine → Tells → Result Change IdReason

@@ -1,7 +1,8 @@
 -- A watch over a trace: what its flits have told, and which flits it takes (docs/OBSERVER.md, "A trace of many lines").
-use Rattle.std.specs.Prelude.{◌≡◌, ℕ, ◌+◌, Bool, true, false, not, List, [], Option, Some, None, Result, Ok, Err, if◌then◌else◌, is_none, replicate, unwrap_or}
+use Rattle.std.specs.Prelude.{◌≡◌, ℕ, ◌+◌, Bool, true, false, not, List, [], Option, Some, None, Result, Ok, Err, if◌then◌else◌, is_none, option_map, replicate, unwrap_or}
 use Rattle.chi_flit.specs.declared.numbers.Agent.{Agent}
 use Rattle.chi_trace.specs.declared.fields.NodeId.{NodeId}
+use Rattle.chi_observer.specs.declared.flits.Flit.{Flit}
 use Rattle.chi_observer.specs.declared.observer.Reason.TheVariants.{NotSent}
 use Rattle.chi_observe.specs.declared.lines.LineNews.{LineNews}
 use Rattle.chi_observe.specs.declared.lines.LineNews.TheVariants as news
@@ -19,6 +20,7 @@ use Rattle.chi_observe.specs.declared.events.Tells.TheVariants.{NoForm, Unjudged
 use Rattle.chi_observe.specs.declared.ids.CacheLine.{CacheLine}
 use Rattle.chi_observe.specs.declared.ids.IdKey.{IdKey}
 use Rattle.chi_observe.specs.declared.ids.KeyNumbers.{KeyNumbers}
+use Rattle.chi_observe.specs.declared.ids.Later.{Later}
 use Rattle.chi_observe.specs.declared.ids.OpenId.{OpenId}
 use Rattle.chi_observe.specs.declared.ids.Sides.{Sides}
 use Rattle.chi_observe.specs.declared.reasons.IdReason.{IdReason}
@@ -35,10 +37,10 @@ use Rattle.chi_observe.specs.declared.watch.WatchFault.TheVariants as faults
 use Rattle.chi_observe.specs.declared.watch.WatchStop.{WatchStop}
 use Rattle.chi_observe.specs.declared.watch.WatchStop.TheVariants as stops
 use Rattle.chi_observe.specs.Credits.{booked, booked_all}
-use Rattle.chi_observe.specs.Events.{flit_by, news_of}
+use Rattle.chi_observe.specs.Events.{flit_by, news_of, with_words}
 use Rattle.chi_observe.specs.Judges.{Before, is_at_home, is_cut, last_of}
 use Rattle.chi_observe.specs.LeftOver.{is_left_over, last_behind, named_after, named_behind}
-use Rattle.chi_observe.specs.Lines.{LineState, home_of, is_aside, is_line_reason, is_put_aside, line_next, lines_in, put_line, state_at, takes_line}
+use Rattle.chi_observe.specs.Lines.{LineState, early_of, home_of, is_aside, is_line_reason, is_put_aside, line_next, lines_in, put_line, state_at, takes_line}
 use Rattle.chi_observe.specs.Nodes.{agent_of, with_home, with_requester}
 use Rattle.chi_observe.specs.Grants.{granted, returned}
 use Rattle.chi_observe.specs.Steps.{change_of, ids_after}
@@ -88,9 +90,6 @@ abbrev pub formed : Tells → Result Change IdReason → Result Change IdReason
 formed (NoForm resp) change = Err (Form resp)
 formed tells change = change
 
-abbrev pub allowed : Watched → LineEvent → Result Change IdReason
-allowed w e = formed e.tells (change_of w.options (table_in w) e.sides e.step e.at e.tells)
-
 -- what it tells its line's observer: by the agent that its requester is, if it is judged
 abbrev pub agent_by : Watched → Sides → Tells → Option Agent
 agent_by w sides Unjudged = None
@@ -98,6 +97,42 @@ agent_by w sides tells = agent_of w.requesters w.homes sides
 
 abbrev pub agent_in : Watched → LineEvent → Option Agent
 agent_in w e = agent_by w e.sides e.tells
+
+-- data that come in beats, whose words are known at the first one: the line is told of them there, and the id has the words
+abbrev pub early_line : Option LineState → Flit → List Bool → Option (Later × List ℕ)
+early_line None flit lacking = None
+early_line (Some s) flit lacking = early_of s flit lacking
+
+abbrev pub early_told : Option LineState → Option Flit → List Bool → Option (Later × List ℕ)
+early_told s None lacking = None
+early_told s (Some flit) lacking = early_line s flit lacking
+
+abbrev pub early_in : Watched → LineEvent → CacheLine → List Bool → Option (Later × List ℕ)
+early_in w e line lacking = early_told (w.lines line.0) (flit_by e.tells (agent_in w e)) lacking
+
+abbrev pub early_id : Tells → Later → OpenId → OpenId
+early_id told later id = record id { begun = Some told; later = later }
+
+abbrev pub with_early : Tells → Later → Change → Change
+with_early told later change = record change { keeps = option_map (early_id told later) change.keeps; part = parts.Known told }
+
+abbrev pub early_change : Tells → Change → Option (Later × List ℕ) → Change
+early_change tells change None = change
+early_change tells change (Some early) = with_early (with_words tells early.1) early.0 change
+
+abbrev pub ready_by : Watched → LineEvent → Change → Part → Change
+ready_by w e change (parts.First lacking) = early_change e.tells change (early_in w e change.line lacking)
+ready_by w e change part = change
+
+abbrev pub ready : Watched → LineEvent → Change → Change
+ready w e change = ready_by w e change change.part
+
+abbrev pub all_ready : Watched → LineEvent → Result Change IdReason → Result Change IdReason
+all_ready w e (Ok change) = Ok (ready w e change)
+all_ready w e (Err reason) = Err reason
+
+abbrev pub allowed : Watched → LineEvent → Result Change IdReason
+allowed w e = all_ready w e (formed e.tells (change_of w.options (table_in w) e.sides e.step e.at e.tells))
 
 abbrev pub news_in : Watched → LineEvent → Change → LineNews
 news_in w e change = news_of e.tells change.part (agent_in w e)
@@ -120,7 +155,9 @@ counts_aside (Some mark) n = record n { aside = n.aside + 1; first_aside = Some 
 abbrev pub counts_after : Part → Option Aside → Bool → Counts → Counts
 counts_after parts.Whole aside fresh n = counts_aside aside (counts_first fresh n)
 counts_after (parts.First left) aside fresh n = counts_aside aside (counts_first fresh n)
+counts_after (parts.Known tells) aside fresh n = counts_aside aside (counts_first fresh n)
 counts_after parts.Further aside fresh n = counts_aside aside n
+counts_after (parts.Held same) aside fresh n = counts_aside aside n
 counts_after (parts.Last tells) aside fresh n = counts_aside aside n
 
 abbrev pub counts_access : Option Aside → Counts → Counts
@@ -150,7 +187,9 @@ told_after w e change = if takes_line (before_in w) (state_at (before_in w) w.li
 abbrev pub by_part : Watched → LineEvent → Change → Part → Option Watched
 by_part w e change parts.Whole = told_after w e change
 by_part w e change (parts.First left) = told_after w e change
+by_part w e change (parts.Known tells) = told_after w e change
 by_part w e change parts.Further = Some (beat_after w e change)
+by_part w e change (parts.Held same) = told_after w e change
 by_part w e change (parts.Last tells) = told_after w e change
 
 -- a flit that names an id from before

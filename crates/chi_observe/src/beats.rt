@@ -1,15 +1,14 @@
 //! Data that come in beats.
 
 ghost use Rattle.std.specs.Prelude.{◌≡◌};
-ghost use Rattle.chi_observe.specs.Beats.{beat_of, first_beat, first_dbid, is_again, is_same_beat, is_word_again, kept_with, lacking, lacks_some, later_beat, left_of, told_with};
-ghost use Rattle.chi_observe.specs.Events.{word_with, words_with};
+ghost use Rattle.chi_observe.specs.Beats.{beat_of, first_beat, first_dbid, held_by, held_in, is_again, is_same_beat, is_word_again, kept_with, later_beat, told_with};
 ghost use Rattle.chi_observe.specs.Tables.{table_of};
 
 use crate::events::Tells;
-use crate::ids::{CacheLine, IdKey, OpenId, Purpose};
+use crate::ids::{CacheLine, IdKey, Later, OpenId, Purpose};
 use crate::reasons::IdReason;
 use crate::tables::{Change, Part, Tables, plain_change};
-use chi_flit::Data;
+use crate::words::{lacks_some, left_of, words_with};
 use chi_trace::DbId;
 use std::alloc::Allocator;
 
@@ -33,59 +32,6 @@ pub(crate) fn is_again(lacks: &[bool; 8], there: &[bool; 8]) -> bool
     again |= is_word_again(lacks[6], there[6]);
     again |= is_word_again(lacks[7], there[7]);
     again
-}
-
-/// Whether a word lacks behind a beat.
-fn lacking(lacks: bool, there: bool) -> bool
-    ensures { result ≡ lacking lacks there }
-{
-    lacks && !there
-}
-
-/// The words that lack behind a beat.
-pub(crate) fn left_of(lacks: &[bool; 8], there: &[bool; 8]) -> [bool; 8]
-    ensures { result ≡ left_of lacks.now there.now }
-{
-    [
-        lacking(lacks[0], there[0]),
-        lacking(lacks[1], there[1]),
-        lacking(lacks[2], there[2]),
-        lacking(lacks[3], there[3]),
-        lacking(lacks[4], there[4]),
-        lacking(lacks[5], there[5]),
-        lacking(lacks[6], there[6]),
-        lacking(lacks[7], there[7]),
-    ]
-}
-
-/// Whether some word lacks.
-fn lacks_some(left: &[bool; 8]) -> bool
-    ensures { result ≡ lacks_some left.now }
-{
-    left.iter().any(|lacks| *lacks)
-}
-
-/// A word of data behind a beat: the beat's, where it has it.
-fn word_with(old: u64, new: u64, there: bool) -> u64
-    ensures { result ≡ word_with old new there }
-{
-    if there { new } else { old }
-}
-
-/// The words of data behind a beat.
-pub(crate) fn words_with(old: &Data, new: &Data, there: &[bool; 8]) -> Data
-    ensures { result ≡ words_with old.now new.now there.now }
-{
-    [
-        word_with(old[0], new[0], there[0]),
-        word_with(old[1], new[1], there[1]),
-        word_with(old[2], new[2], there[2]),
-        word_with(old[3], new[3], there[3]),
-        word_with(old[4], new[4], there[4]),
-        word_with(old[5], new[5], there[5]),
-        word_with(old[6], new[6], there[6]),
-        word_with(old[7], new[7], there[7]),
-    ]
 }
 
 /// What data tell behind a beat with such words: in the form of their first beat.
@@ -141,6 +87,30 @@ fn first_beat(found: &OpenId, left: [bool; 8], tells: Tells, dbid: Option<DbId>)
     }
 }
 
+/// Whether a later beat of the id, behind which the data tell this, has the words that were known at the first one.
+fn is_held(found: &OpenId, begun: Tells, told: Tells) -> Option<bool>
+    ensures { result ≡ held_in found.now begun told }
+{
+    match found.later {
+        Later::Told => None,
+        Later::Held => Some(told == begun),
+        Later::Free => Some(true),
+    }
+}
+
+/// The same change, by a beat that has such words, or by another one.
+fn held_by(change: Change, held: Option<bool>) -> Change
+    ensures { result ≡ held_by change held }
+{
+    match held {
+        Some(same) => Change {
+            part: Part::Held(same),
+            ..change
+        },
+        None => change,
+    }
+}
+
 /// A later beat of the id, behind which these words lack and the data tell this.
 fn later_beat(found: &OpenId, left: [bool; 8], tells: Tells) -> Change
     ensures { result ≡ later_beat found.now left tells }
@@ -187,8 +157,10 @@ impl<A: Allocator> Tables<'_, A> {
                 if is_again(&lacks, there) {
                     return Err(IdReason::WordAgain(key));
                 }
-                let told = told_with(found.begun.unwrap_or(tells), tells, there);
-                Ok(later_beat(&found, left_of(&lacks, there), told))
+                let begun = found.begun.unwrap_or(tells);
+                let told = told_with(begun, tells, there);
+                let change = later_beat(&found, left_of(&lacks, there), told);
+                Ok(held_by(change, is_held(&found, begun, told)))
             }
         }
     }

@@ -20,7 +20,7 @@ use crate::bounded::BoundedWatch;
 use crate::credits::AccountTable;
 use crate::ids::IdTable;
 use crate::judges::{BegunLine, Judge};
-use crate::lines::{LineSeen, LineTable};
+use crate::lines::{Lacking, LineSeen, LineTable};
 use crate::marks::Marks;
 use crate::watch::Watch;
 use chi_observer::{
@@ -238,6 +238,14 @@ impl<A: Allocator> Marks<A> {
     }
 }
 
+/// Whether the same lacks.
+#[tactic(auto, using(crate::proofs::EqualParts::lacking))]
+fn lacks_same(one: &Lacking, other: &Lacking) -> bool
+    ensures { IsTrue result ↔ (one.now ≡ other.now) }
+{
+    *one == *other
+}
+
 impl<A: Allocator> LineSeen<A> {
     /// Whether the same is known of both lines.
     #[tactic(auto, using(crate::proofs::EqualParts::line_same))]
@@ -246,7 +254,7 @@ impl<A: Allocator> LineSeen<A> {
     {
         let home = self.home == other.home;
         let aside = self.aside == other.aside;
-        let lacking = self.lacking == other.lacking;
+        let lacking = lacks_same(&self.lacking, &other.lacking);
         let judge = self.judge.equals(&other.judge);
         home & aside & lacking & judge & self.marks.equals(&other.marks)
     }

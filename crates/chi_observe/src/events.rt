@@ -1,7 +1,7 @@
 //! What a flit of a trace is to a watch.
 
 ghost use Rattle.std.specs.Prelude.{◌≡◌};
-ghost use Rattle.chi_observe.specs.Events.{begun_by, ended_by, flit_by, judged, news_of, with_words, words_of};
+ghost use Rattle.chi_observe.specs.Events.{begun_by, early_by, ended_by, flit_by, judged, news_of, with_words, words_of};
 
 use crate::ids::{CacheLine, Sides};
 use crate::lines::LineNews;
@@ -114,6 +114,8 @@ pub(crate) fn news_of(tells: Tells, part: Part, agent: Option<Agent>) -> LineNew
 {
     match part {
         Part::Last(told) => ended_by(flit_by(told, agent)),
+        Part::Known(told) => early_by(flit_by(told, agent)),
+        Part::Held(same) => LineNews::Held(same),
         Part::First(lacks) => begun_by(flit_by(tells, agent), lacks),
         Part::Whole | Part::Further => LineNews::Flit(flit_by(tells, agent)),
     }
@@ -132,6 +134,16 @@ fn begun_by(flit: Option<Flit>, lacks: [bool; 8]) -> LineNews
                 LineNews::Flit(Some(flit))
             }
         }
+        None => LineNews::Flit(None),
+    }
+}
+
+/// The first beat of data whose words are known; of data that aren't judged a flit that isn't.
+fn early_by(flit: Option<Flit>) -> LineNews
+    ensures { result ≡ early_by flit }
+{
+    match flit {
+        Some(flit) => LineNews::Early(flit),
         None => LineNews::Flit(None),
     }
 }

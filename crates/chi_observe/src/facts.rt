@@ -9,10 +9,10 @@ use crate::events::Event;
 use crate::ids::{CacheLine, IdKey, Sides, find_id};
 use crate::judges::Judge;
 use crate::lines::LineSeen;
-use crate::marks::teller_of;
+use crate::marks::{is_known, teller_of};
 use crate::reasons::{IdReason, LineReason};
 use crate::seen::event_of;
-use crate::texts::{expected_in, key_of, words_beside};
+use crate::texts::{expected_in, key_of, known_words_of, words_beside};
 use crate::watch::{Watch, WatchFault};
 use chi_flit::Data;
 use chi_observer::{AGENTS, Flit, Reason, Told};
@@ -141,7 +141,7 @@ impl<A: Allocator> Untaken<'_, A> {
 
     /// The words that are known, and which flit has told them.
     fn words(&self) -> Ground {
-        let known = self.judge.known_words(self.flit);
+        let known = known_words_of(self.judge, self.seen, self.flit);
         let shown = words_beside(self.flit, known.words);
         if known.known == [false; 8] {
             return Ground::NONE;
@@ -149,6 +149,17 @@ impl<A: Allocator> Untaken<'_, A> {
         Ground {
             since: self.words_since(),
             words: Some((expected_in(&known, &shown), shown)),
+            ..self.copy(usize::from(teller_of(self.flit).0))
+        }
+    }
+
+    /// The words that were known at the first beat of data, beside other ones, and which flit has told them, where they are
+    /// still the home's.
+    fn held(&self, words: (Data, Data)) -> Ground {
+        let home = is_known(&self.judge.observer().home, &words.0);
+        Ground {
+            since: if home { self.words_since() } else { 0 },
+            words: Some(words),
             ..self.copy(usize::from(teller_of(self.flit).0))
         }
     }
@@ -216,7 +227,10 @@ impl<A: Allocator + Copy> Watch<A> {
             seen,
             requesters: &self.requesters,
         };
-        untaken.ground(reason)
+        match self.held_words(event) {
+            Some(words) => untaken.held(words),
+            None => untaken.ground(reason),
+        }
     }
 
     /// What a fault rests on.

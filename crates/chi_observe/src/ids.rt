@@ -113,6 +113,18 @@ fn is_followed(kind: Kind) -> bool
     }
 }
 
+/// What the later beats of an id's data are to their line.
+/// Source: `docs/OBSERVER.md`, "Data in beats".
+#[derive(Clone, Copy, Debug, PartialEq, Eq)]
+pub enum Later {
+    /// It is told of the data with the last one.
+    Told,
+    /// Their words are known since the first one.
+    Held,
+    /// Their words may be any, and tell nothing.
+    Free,
+}
+
 /// An id that is open.
 /// Source: `docs/OBSERVER.md`, "Ids and credits".
 #[derive(Clone, Copy, Debug, PartialEq, Eq)]
@@ -124,8 +136,9 @@ pub struct OpenId {
     pub waits_for: Option<PcrdType>,
     /// Which words its data lacks, once a beat has come.
     pub lacks: Option<[bool; 8]>,
-    /// What its data tell, with the words that have come, once a beat has.
+    /// What its data tell, with the words that have come, once a beat has; with all words where they are known.
     pub begun: Option<Tells>,
+    pub later: Later,
     /// The DBID that the first beat named, of data that CompAck follows.
     pub dbid: Option<DbId>,
     /// The number of the trace's line that opened it, counted from 1; 0 of one that isn't open yet.
@@ -184,6 +197,7 @@ pub(crate) fn opened_id(key: IdKey, line: CacheLine, purpose: Purpose) -> OpenId
         waits_for: None,
         lacks: None,
         begun: None,
+        later: Later::Told,
         dbid: None,
         since: 0,
     }

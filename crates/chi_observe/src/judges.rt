@@ -6,7 +6,7 @@ ghost use Rattle.chi_observer.specs.Arriving.{holds_none};
 ghost use Rattle.chi_observer.specs.Begun.{begun};
 ghost use Rattle.chi_observer.specs.Lines.{watched};
 ghost use Rattle.chi_observer.specs.ListedLines.{listed_watched};
-ghost use Rattle.chi_observe.specs.Judges.{before_of, fault_of, holds, is_judge_fault, judged, line_judged, only_known, opened_from, opened_whole, told_in, verdict, verdict_of, wake, wanted_in, woken, worded};
+ghost use Rattle.chi_observe.specs.Judges.{before_of, but_any, fault_of, holds, is_judge_fault, judged, line_judged, opened_from, opened_whole, told_in, verdict, verdict_of, wake, wanted_in, woken, worded};
 
 use crate::marks::teller_of;
 use chi_flit::{Agent, Data};
@@ -199,12 +199,13 @@ fn arrivals_copy(arrivals: &Arrivals) -> Arrivals
     }
 }
 
-/// The same, if the words have to be those that are known.
-fn only_known(wanted: Wanted) -> Wanted
-    ensures { result ≡ only_known wanted }
+/// The same, but where the words may be any and are told.
+fn but_any(wanted: Wanted) -> Wanted
+    ensures { result ≡ but_any wanted }
 {
     match wanted {
         Wanted::Known => Wanted::Known,
+        Wanted::Free => Wanted::Free,
         Wanted::Nothing => Wanted::Nothing,
         Wanted::Any => Wanted::Nothing,
     }
@@ -325,7 +326,7 @@ impl<A: Allocator> Judge<A> {
     {
         match self {
             Judge::Whole(observer) => observer.wanted(flit),
-            Judge::Listed(observer) => only_known(observer.seen.wanted(flit)),
+            Judge::Listed(observer) => but_any(observer.seen.wanted(flit)),
             Judge::Begun(_) => Wanted::Nothing,
             Judge::Home(_) => Wanted::Nothing,
         }

@@ -5,13 +5,14 @@ ghost use Rattle.chi_observe.specs.Judges.{last_of};
 ghost use Rattle.chi_observe.specs.LeftOver.{closed_id, dbid_key, has_more, is_agent, is_left_over, is_of_line, is_unknown_reply, lacked_of, lacks_behind, last_at, may_come, named_after, named_behind, named_id, opened_in, words_there};
 ghost use Rattle.chi_observe.specs.Watched.{IsUnopenedWatched, left_over_after, watched};
 
-use crate::beats::{is_again, left_of};
+use crate::beats::is_again;
 use crate::events::LineEvent;
 use crate::ids::{CacheLine, IdKey, IdTable, OpenId, Purpose, Sides, find_id, opened_id};
 use crate::nodes::place_of;
 use crate::reasons::IdReason;
 use crate::steps::{IdStep, WatchOptions};
 use crate::watch::{Watch, WatchFault, WatchStop, free_id, keep_id};
+use crate::words::left_of;
 use chi_trace::DbId;
 use std::alloc::{AllocError, Allocator};
 

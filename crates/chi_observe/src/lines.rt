@@ -2,18 +2,17 @@
 
 ghost use Rattle.std.specs.Prelude.{◌≡◌, IfOk, None, OnOk, nat_eq};
 ghost use Rattle.std.specs.Map.{lookup};
-ghost use Rattle.chi_observer.specs.Wanted.{flit_with, flit_words};
 ghost use Rattle.chi_observe.specs.declared.lines.LineStop.TheVariants as stops;
 ghost use Rattle.chi_observe.specs.Judges.{before_of};
-ghost use Rattle.chi_observe.specs.Lines.{IsBegunTold, IsEarlyTold, IsEndTold, IsFlitTold, IsHeldTold, IsLineTold, IsShownTold, IsTold, filled, held_next, home_of, is_apart, is_aside, is_load, is_put_aside, is_wanted_known, lacking_with, lacking_without, line_state, lines_in, marked_next, opened_line, put_aside, wanted_of};
+ghost use Rattle.chi_observe.specs.Lines.{IsBegunTold, IsBetweenTold, IsEarlyTold, IsEndTold, IsFlitTold, IsHeldTold, IsHoldTold, IsLastTold, IsLineTold, IsShownTold, IsTold, early_of, held_next, home_of, is_apart, is_aside, is_given, is_known_lacking, is_put_aside, is_showing, is_wanted_free, is_wanted_known, lacking_shown, lacking_with, lacking_without, lacks_of, line_state, lines_in, marked_next, may_show, opened_line, presented, put_aside, shown_more, shown_words, shows_home, unknown_in, wanted_of, with_shown, word_in};
 
-use crate::beats::words_with;
-use crate::ids::CacheLine;
+use crate::ids::{CacheLine, Later};
 use crate::judges::{Before, Judge};
-use crate::marks::{Marks, is_known, shows_some, teller_of};
+use crate::marks::{Marks, shows_some, teller_of};
 use crate::reasons::LineReason;
-use chi_flit::Data;
-use chi_observer::{Act, Aside, CacheFlit, Flit, HomeFlit, Reason, Untaken, Wanted};
+use crate::words::{agrees, but_one, lacks_some, left_of, unknown_behind, words_with};
+use chi_flit::{Data, WordNo};
+use chi_observer::{Act, Aside, CacheFlit, Flit, HomeFlit, Reason, Untaken, Wanted, Word};
 use chi_trace::NodeId;
 use indexmap::IndexMap;
 use std::alloc::{AllocError, Allocator};
@@ -44,25 +43,40 @@ pub(crate) enum Lacking {
     Nothing,
     /// Words without which the line isn't told of the data: where another flit comes, it isn't judged any more.
     Data,
-    /// Words that have to be the home's, and so do those of so many other data.
-    Known(u8),
-    /// Words that may be any.
-    Any,
+    /// Words of the value that the line was told of at the first beat of its data: those that no flit has shown yet, which
+    /// are any. So many other data lack words of it too; and the home had them before, or gets them by these data.
+    Words([bool; 8], u8, bool),
 }
 
 impl Lacking {
-    /// What lacks behind the first beat of data of whose words this is wanted; `None` where the line isn't told of them yet.
-    fn with(self, wanted: Wanted) -> Option<Lacking>
-        ensures { result ≡ lacking_with self wanted }
+    /// What lacks behind the first beat of data, which the home sends or doesn't, that lack such words, and of whose words
+    /// this is wanted; `None` where the line isn't told of them yet.
+    fn with(self, wanted: Wanted, given: bool, lacks: &[bool; 8]) -> Option<Lacking>
+        ensures { result ≡ lacking_with self wanted given lacks.now }
     {
         match (self, wanted) {
-            (Lacking::Nothing, Wanted::Known) => Some(Lacking::Known(0)),
-            (Lacking::Nothing, Wanted::Any) => Some(Lacking::Any),
-            (Lacking::Known(others), Wanted::Known) => {
+            (Lacking::Nothing, Wanted::Any) => Some(Lacking::Words(*lacks, 0, given)),
+            (Lacking::Words(unknown, others, had), Wanted::Known) => {
+                if !self.may_show(given, lacks) {
+                    return None;
+                }
                 let others = others.checked_add(1)?;
-                Some(Lacking::Known(others))
+                Some(Lacking::Words(unknown_behind(&unknown, lacks), others, had))
             }
             _ => None,
+        }
+    }
+
+    /// Whether data that lack such words, which the home sends or doesn't, may show the others: the home not before it has
+    /// them.
+    fn may_show(&self, given: bool, lacks: &[bool; 8]) -> bool
+        ensures { result ≡ may_show self.now given lacks.now }
+    {
+        match self {
+            Lacking::Nothing => true,
+            Lacking::Data => true,
+            Lacking::Words(unknown, _, had) => !given
+                || (*had || !lacks_some(&left_of(unknown, lacks))),
         }
     }
 
@@ -71,13 +85,47 @@ impl Lacking {
         ensures { result ≡ lacking_without self }
     {
         match self {
-            Lacking::Known(others) => match others.checked_sub(1) {
-                Some(others) => Lacking::Known(others),
+            Lacking::Words(_, others, had) => match others.checked_sub(1) {
+                Some(others) => Lacking::Words([false; 8], others, had),
                 None => Lacking::Nothing,
             },
             Lacking::Nothing => Lacking::Nothing,
             Lacking::Data => Lacking::Nothing,
-            Lacking::Any => Lacking::Nothing,
+        }
+    }
+
+    /// The words that no flit has shown yet.
+    pub(crate) fn unknown(&self) -> [bool; 8]
+        ensures { result ≡ unknown_in self.now }
+    {
+        match self {
+            Lacking::Nothing => [false; 8],
+            Lacking::Data => [false; 8],
+            Lacking::Words(unknown, _, _) => *unknown,
+        }
+    }
+
+    /// Whether all words are known that the line was told of.
+    fn is_known(&self) -> bool
+        ensures { result ≡ is_known_lacking self.now }
+    {
+        match self {
+            Lacking::Nothing => true,
+            Lacking::Data => false,
+            Lacking::Words(unknown, _, _) => !lacks_some(unknown),
+        }
+    }
+
+    /// The same behind a flit that lacks such words, but no word of it lacks.
+    fn shown(self, lacks: &[bool; 8]) -> Lacking
+        ensures { result ≡ lacking_shown self lacks.now }
+    {
+        match self {
+            Lacking::Words(unknown, others, had) => {
+                Lacking::Words(unknown_behind(&unknown, lacks), others, had)
+            }
+            Lacking::Nothing => Lacking::Nothing,
+            Lacking::Data => Lacking::Data,
         }
     }
 }
@@ -87,10 +135,14 @@ impl Lacking {
 pub(crate) enum LineNews {
     /// A flit, with all words; none where it isn't judged.
     Flit(Option<Flit>),
+    /// The first beat of data whose words are known, or tell nothing, with all words.
+    Early(Flit),
     /// The first beat of data that lack these words, with any in their places.
     Begun(Flit, [bool; 8]),
     /// The last one, with all words; none where the data aren't judged.
     Ended(Option<Flit>),
+    /// A later one of data whose words were known at the first: whether it has them.
+    Held(bool),
     /// One that tells nothing.
     Nothing,
 }
@@ -222,30 +274,47 @@ impl<A: Allocator> LineSeen<A> {
         }
     }
 
-    /// The flit with the home's words in place of those that it lacks.
-    fn filled(&self, flit: Flit, lacks: &[bool; 8]) -> Flit
-        ensures { result ≡ filled (line_state self.now) flit lacks.now }
+    /// A flit with the home's words in place of those that it lacks, and of those that no flit has shown.
+    pub(crate) fn presented(&self, flit: Flit, lacks: &[bool; 8]) -> Flit
+        ensures { result ≡ presented (line_state self.now) flit lacks.now }
     {
         match &self.judge.observer().home {
-            Some(home) => with_words(flit, words_with(&words_of(flit), home, lacks)),
+            Some(home) => {
+                let filled = words_with(&words_of(flit), home, lacks);
+                with_words(flit, words_with(&filled, home, &self.lacking.unknown()))
+            }
             None => flit,
         }
     }
 
-    /// Takes the first beat of data whose other words have to be such.
-    fn take_early(
+    /// The home has the words that this flit was the first to show.
+    fn show(&mut self, flit: Flit, lacks: &[bool; 8])
+        ensures { line_state self.new ≡ shown_more (line_state self.old) flit lacks.now }
+    {
+        let Some(home) = &self.judge.observer().home else {
+            return;
+        };
+        let there = left_of(&self.lacking.unknown(), lacks);
+        let words = words_with(home, &words_of(flit), &there);
+        self.judge.show(words);
+    }
+
+    /// Takes a flit that lacks such words, and shows some of those that lack so far; this lacks behind it.
+    fn take_shown(
         &mut self,
         before: &Before,
         home: NodeId,
         flit: Flit,
+        lacks: &[bool; 8],
         lacking: Lacking,
         number: usize,
     ) -> Result<(), LineStop>
-        ensures { IsEarlyTold (before_of before.now) (line_state self.old) (line_state self.new) number home flit lacking result }
+        ensures { IsShownTold (before_of before.now) (line_state self.old) (line_state self.new) number home flit lacks.now lacking result }
     {
-        let words = self.marks.words;
-        self.take_flit(before, home, Some(flit), number)?;
-        self.marks.words = words;
+        let whole = self.presented(flit, lacks);
+        self.take_flit(before, home, Some(whole), number)?;
+        self.show(flit, lacks);
+        self.marks.words = number;
         self.lacking = lacking;
         Ok(())
     }
@@ -261,13 +330,12 @@ impl<A: Allocator> LineSeen<A> {
     ) -> Result<(), LineStop>
         ensures { IsBegunTold (before_of before.now) (line_state self.old) (line_state self.new) number home flit lacks.now result }
     {
-        let whole = self.filled(flit, lacks);
-        match self.lacking.with(self.wanted(flit)) {
+        match self.lacking.with(self.wanted(flit), is_given(flit), lacks) {
             None => {
                 self.hold();
                 Ok(())
             }
-            Some(lacking) => self.take_early(before, home, whole, lacking, number),
+            Some(lacking) => self.take_shown(before, home, flit, lacks, lacking, number),
         }
     }
 
@@ -288,7 +356,7 @@ impl<A: Allocator> LineSeen<A> {
 
     /// Takes the last beat of data of which the line was told at their first.
     fn end_early(&mut self, flit: Option<Flit>, number: usize) -> Result<(), LineStop>
-        ensures { IsShownTold (line_state self.old) (line_state self.new) number flit result }
+        ensures { IsLastTold (line_state self.old) (line_state self.new) number flit result }
     {
         let left = self.lacking.without();
         let Some(flit) = flit else {
@@ -297,8 +365,8 @@ impl<A: Allocator> LineSeen<A> {
             return Ok(());
         };
         let words = words_of(flit);
-        let known = is_known(&self.judge.observer().home, &words);
-        if !self.aside && (matches!(self.lacking, Lacking::Known(_)) && !known) {
+        let unknown = self.lacking.unknown();
+        if !self.aside && !agrees(&unknown, &self.judge.observer().home, &words) {
             return Err(LineStop::Refused(LineReason::Rule(Reason::OtherWords)));
         }
         if !self.aside {
@@ -322,8 +390,41 @@ impl<A: Allocator> LineSeen<A> {
         match self.lacking {
             Lacking::Nothing => self.end_held(before, home, flit, number),
             Lacking::Data => self.end_held(before, home, flit, number),
-            Lacking::Known(_) => self.end_early(flit, number),
-            Lacking::Any => self.end_early(flit, number),
+            Lacking::Words(_, _, _) => self.end_early(flit, number),
+        }
+    }
+
+    /// A later beat of data whose words were known at the first: it has them, or doesn't.
+    fn hold_to(&self, same: bool) -> Result<(), LineStop>
+        ensures { IsHoldTold (line_state self.now) same result }
+    {
+        if self.aside || same {
+            Ok(())
+        } else {
+            Err(LineStop::Refused(LineReason::Rule(Reason::OtherWords)))
+        }
+    }
+
+    /// Whether a flit shows words that have to be the home's, and may show them.
+    fn shows_home(&self, flit: Flit) -> bool
+        ensures { result ≡ shows_home (line_state self.now) flit }
+    {
+        !self.aside
+            && ((is_wanted_known(self.judge.wanted(flit)) || self.judge.observer().reads_home(flit))
+                && self.lacking.may_show(is_given(flit), &lacks_of(flit)))
+    }
+
+    /// Whether a flit shows words of which some lack so far.
+    fn is_showing(&self, flit: &Option<Flit>) -> bool
+        ensures { result ≡ is_showing (line_state self.now) flit.now }
+    {
+        match flit {
+            None => false,
+            Some(flit) => match self.lacking {
+                Lacking::Nothing => false,
+                Lacking::Data => false,
+                Lacking::Words(_, _, _) => self.shows_home(*flit),
+            },
         }
     }
 
@@ -336,9 +437,67 @@ impl<A: Allocator> LineSeen<A> {
             Some(flit) => match self.lacking {
                 Lacking::Nothing => true,
                 Lacking::Data => false,
-                Lacking::Known(_) => !shows_some(*flit) || is_wanted_known(self.wanted(*flit)),
-                Lacking::Any => !(shows_some(*flit) || is_load(*flit)),
+                Lacking::Words(_, _, _) => !shows_some(*flit) || is_wanted_free(self.wanted(*flit)),
             },
+        }
+    }
+
+    /// Takes a flit of this home, and with this number, between the beats of data or not.
+    fn take_between(
+        &mut self,
+        before: &Before,
+        home: NodeId,
+        flit: Option<Flit>,
+        number: usize,
+    ) -> Result<(), LineStop>
+        ensures { IsBetweenTold (before_of before.now) (line_state self.old) (line_state self.new) number home flit result }
+    {
+        if self.is_showing(&flit) {
+            if let Some(flit) = flit {
+                let lacks = lacks_of(flit);
+                let lacking = self.lacking.shown(&lacks);
+                return self.take_shown(before, home, flit, &lacks, lacking, number);
+            }
+        }
+        if self.is_apart(&flit) {
+            return self.take_flit(before, home, flit, number);
+        }
+        self.set_aside();
+        Ok(())
+    }
+
+    /// Takes the first beat of data whose words are known, or tell nothing: it shows none that weren't shown.
+    fn take_early(
+        &mut self,
+        before: &Before,
+        home: NodeId,
+        flit: Flit,
+        number: usize,
+    ) -> Result<(), LineStop>
+        ensures { IsEarlyTold (before_of before.now) (line_state self.old) (line_state self.new) number home flit result }
+    {
+        let words = self.marks.words;
+        self.take_between(before, home, Some(flit), number)?;
+        self.marks.words = words;
+        Ok(())
+    }
+
+    /// What the words of data that lack such words are known to be at their first beat, and what the later ones are then;
+    /// `None` where they aren't known.
+    pub(crate) fn early(&self, flit: Flit, lacks: &[bool; 8]) -> Option<(Later, Data)>
+        ensures { result ≡ early_of (line_state self.now) flit lacks.now }
+    {
+        match self.wanted(flit) {
+            Wanted::Free => Some((Later::Free, words_of(flit))),
+            Wanted::Known => {
+                if !self.lacking.is_known() {
+                    return None;
+                }
+                let home = self.judge.observer().home?;
+                Some((Later::Held, words_with(&words_of(flit), &home, lacks)))
+            }
+            Wanted::Any => None,
+            Wanted::Nothing => None,
         }
     }
 
@@ -354,15 +513,11 @@ impl<A: Allocator> LineSeen<A> {
         ensures { IsLineTold (before_of before.now) (line_state self.old) (line_state self.new) number home news result }
     {
         match news {
-            LineNews::Flit(flit) => {
-                if self.is_apart(&flit) {
-                    return self.take_flit(before, home, flit, number);
-                }
-                self.set_aside();
-                Ok(())
-            }
+            LineNews::Flit(flit) => self.take_between(before, home, flit, number),
+            LineNews::Early(flit) => self.take_early(before, home, flit, number),
             LineNews::Begun(flit, lacks) => self.begin(before, home, flit, &lacks, number),
             LineNews::Ended(flit) => self.end(before, home, flit, number),
+            LineNews::Held(same) => self.hold_to(same),
             LineNews::Nothing => Ok(()),
         }
     }
@@ -386,30 +541,70 @@ impl<A: Allocator> LineSeen<A> {
     }
 }
 
-/// The words of a flit.
+/// The words of a flit: a load's word in the place of each.
 fn words_of(flit: Flit) -> Data
-    ensures { result ≡ flit_words flit }
+    ensures { result ≡ shown_words flit }
 {
     match flit {
-        Flit::Up(sent) => sent.shown,
+        Flit::Up(sent) => match sent.act {
+            Act::Load(word) => [word.value; 8],
+            _ => sent.shown,
+        },
         Flit::Down(given) => given.shown,
     }
 }
 
-/// The flit with these words.
+/// The word of these in a place.
+fn word_in(words: &Data, place: WordNo) -> u64
+    ensures { result ≡ word_in words.now place }
+{
+    match words.get(usize::from(place.0)) {
+        Some(word) => *word,
+        None => 0,
+    }
+}
+
+/// The flit with these words; a load with that of its place.
 fn with_words(flit: Flit, words: Data) -> Flit
-    ensures { result ≡ flit_with flit words }
+    ensures { result ≡ with_shown flit words }
 {
     match flit {
-        Flit::Up(sent) => Flit::Up(CacheFlit {
-            shown: words,
-            ..sent
-        }),
+        Flit::Up(sent) => match sent.act {
+            Act::Load(word) => {
+                let value = word_in(&words, word.place);
+                let act = Act::Load(Word { value, ..word });
+                Flit::Up(CacheFlit { act, ..sent })
+            }
+            _ => Flit::Up(CacheFlit {
+                shown: words,
+                ..sent
+            }),
+        },
         Flit::Down(given) => Flit::Down(HomeFlit {
             shown: words,
             ..given
         }),
     }
+}
+
+/// The words that a whole flit lacks: of a load all but one.
+pub(crate) fn lacks_of(flit: Flit) -> [bool; 8]
+    ensures { result ≡ lacks_of flit }
+{
+    match flit {
+        Flit::Up(sent) => match sent.act {
+            Act::Load(word) => but_one(word.place.0),
+            _ => [false; 8],
+        },
+        Flit::Down(_) => [false; 8],
+    }
+}
+
+/// Whether the home sends a flit.
+fn is_given(flit: Flit) -> bool
+    ensures { result ≡ is_given flit }
+{
+    matches!(flit, Flit::Down(_))
 }
 
 /// Whether the words have to be those that are known.
@@ -419,14 +614,11 @@ fn is_wanted_known(wanted: Wanted) -> bool
     matches!(wanted, Wanted::Known)
 }
 
-/// Whether a flit is a load.
-fn is_load(flit: Flit) -> bool
-    ensures { result ≡ is_load flit }
+/// Whether the words may be any, and tell nothing.
+fn is_wanted_free(wanted: Wanted) -> bool
+    ensures { result ≡ is_wanted_free wanted }
 {
-    match flit {
-        Flit::Up(sent) => matches!(sent.act, Act::Load(_)),
-        Flit::Down(_) => false,
-    }
+    matches!(wanted, Wanted::Free)
 }
 
 /// Whether the line isn't judged any more.

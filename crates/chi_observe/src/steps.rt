@@ -321,8 +321,8 @@ impl<A: Allocator> Tables<'_, A> {
         let found = self.named(key, at)?;
         let change = self.beat(key, there, dbid, at, tells)?;
         match change.part {
-            Part::Further | Part::Last(_) => Ok(change),
-            Part::Whole | Part::First(_) => {
+            Part::Further | Part::Held(_) | Part::Last(_) => Ok(change),
+            Part::Whole | Part::First(_) | Part::Known(_) => {
                 let opens = self.new_buffer(&found, dbid)?;
                 Ok(Change { opens, ..change })
             }

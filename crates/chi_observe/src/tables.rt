@@ -22,8 +22,12 @@ pub(crate) enum Part {
     Whole,
     /// The first beat: these other words lack.
     First([bool; 8]),
+    /// The first beat, of data whose words are known or tell nothing: what they tell, with all words.
+    Known(Tells),
     /// A later one, behind which words lack.
     Further,
+    /// A later one of data whose words were known at the first: whether it has them.
+    Held(bool),
     /// The last one: what the data tell, with all words.
     Last(Tells),
 }

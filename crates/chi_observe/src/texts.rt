@@ -1,11 +1,10 @@
 //! Why a flit isn't taken, in words. No clause says these texts: they are tested.
 
-use crate::beats::words_with;
 use crate::events::{AccessEvent, Event, LineEvent, Tells, flit_by};
 use crate::ids::{CacheLine, IdKey, OpenId, find_id};
 use crate::judges::{Before, Judge};
-use crate::lines::{Lacking, LineSeen, home_of};
-use crate::marks::teller_of;
+use crate::lines::{Lacking, LineSeen, home_of, lacks_of};
+use crate::marks::{is_known, teller_of};
 use crate::names::{GIVEN, KeyName, LineName, NodeName, SENT, ToldName};
 use crate::nodes::agent_of;
 use crate::pending::{SinceText, requester_in};
@@ -13,6 +12,7 @@ use crate::reasons::{IdReason, LineReason};
 use crate::steps::IdStep;
 use crate::tables::Part;
 use crate::watch::{Watch, WatchFault};
+use crate::words::words_with;
 use chi_flit::{Agent, Data};
 use chi_observer::{
     AGENTS, Act, Aside, CacheFlit, Certainty, Due, Flit, HomeFlit, Kind, KnownWords, Observer,
@@ -168,10 +168,10 @@ fn write_next<A: Allocator>(text: &mut String<A>, first: &mut bool) -> Result<()
 }
 
 impl<A: Allocator> Known<'_, A> {
-    /// Whether data lack words that have to be the home's.
-    fn lacks_known_words(&self) -> bool {
+    /// Whether data lack words of a value that the line was told of at their first beat.
+    fn lacks_words(&self) -> bool {
         match self.seen {
-            Some(seen) => matches!(seen.lacking, Lacking::Known(_)),
+            Some(seen) => matches!(seen.lacking, Lacking::Words(_, _, _)),
             None => false,
         }
     }
@@ -247,17 +247,9 @@ impl<A: Allocator> Known<'_, A> {
 
     /// Puts the words of the flit that are others than the known ones behind the text.
     fn write_words(&self, text: &mut String<A>, flit: Flit) -> Result<(), AllocError> {
-        let known = self.judge.known_words(flit);
+        let known = known_words_of(self.judge, self.seen, flit);
         let shown = words_beside(flit, known.words);
-        let wanted = expected_in(&known, &shown);
-        let mut first = true;
-        for word in 0..8 {
-            let (is, expected) = (shown[word], wanted[word]);
-            if is != expected {
-                write_next(text, &mut first)?;
-                write!(text, "word {word} is {is:x}, expected {expected:x}")?;
-            }
-        }
+        write_others(text, &shown, &expected_in(&known, &shown))?;
         self.write_words_since(text, flit)
     }
 
@@ -269,6 +261,19 @@ impl<A: Allocator> Known<'_, A> {
         if let Some(seen) = self.seen {
             let number = seen.marks.words;
             write!(text, ", by line {number}")?;
+        }
+        Ok(())
+    }
+
+    /// The same, where these are still the home's.
+    fn write_words_if(
+        &self,
+        text: &mut String<A>,
+        words: Data,
+        flit: Flit,
+    ) -> Result<(), AllocError> {
+        if is_known(&self.judge.observer().home, &words) {
+            return self.write_words_since(text, flit);
         }
         Ok(())
     }
@@ -312,6 +317,47 @@ impl<A: Allocator> Known<'_, A> {
             Reason::OtherCopy => self.write_others(text, flit),
             Reason::NoAgent | Reason::NotJudged => write!(text, "it isn't judged"),
         }
+    }
+}
+
+/// Puts the words that are others than the expected ones behind the text.
+fn write_others<A: Allocator>(
+    text: &mut String<A>,
+    shown: &Data,
+    wanted: &Data,
+) -> Result<(), AllocError> {
+    let mut first = true;
+    for word in 0..8 {
+        let (is, expected) = (shown[word], wanted[word]);
+        if is != expected {
+            write_next(text, &mut first)?;
+            write!(text, "word {word} is {is:x}, expected {expected:x}")?;
+        }
+    }
+    Ok(())
+}
+
+/// The words that are known which those of the flit are to be, but for those that lack so far.
+pub(crate) fn known_words_of<A: Allocator>(
+    judge: &Judge<A>,
+    seen: Option<&LineSeen<A>>,
+    flit: Flit,
+) -> KnownWords {
+    let mut known = judge.known_words(flit);
+    if let Some(seen) = seen {
+        let unknown = seen.lacking.unknown();
+        for n in 0..8 {
+            known.known[n] = known.known[n] && !unknown[n];
+        }
+    }
+    known
+}
+
+/// The flit as its line is told of it.
+fn presented_to<A: Allocator>(seen: Option<&LineSeen<A>>, flit: Flit) -> Flit {
+    match seen {
+        Some(seen) => seen.presented(flit, &lacks_of(flit)),
+        None => flit,
     }
 }
 
@@ -506,10 +552,43 @@ impl<A: Allocator> Watch<A> {
             Ok(change) => match change.part {
                 Part::Last(told) => told,
                 Part::First(lacks) => self.filled(event.tells, change.line, &lacks),
-                Part::Whole | Part::Further => event.tells,
+                Part::Known(told) => told,
+                Part::Whole | Part::Further | Part::Held(_) => event.tells,
             },
             Err(_) => event.tells,
         }
+    }
+
+    /// Whether a flit is the last beat of data whose words weren't known at the first.
+    fn is_last_beat(&self, event: &Event) -> bool {
+        let Event::Line(event) = event else {
+            return false;
+        };
+        match self.allowed(event) {
+            Ok(change) => matches!(change.part, Part::Last(_)),
+            Err(_) => false,
+        }
+    }
+
+    /// The words that were known at the first beat of data, and those behind a later one, if the flit is such.
+    pub(crate) fn held_words(&self, event: &Event) -> Option<(Data, Data)> {
+        let Event::Line(event) = event else {
+            return None;
+        };
+        let Ok(change) = self.allowed(event) else {
+            return None;
+        };
+        if !matches!(change.part, Part::Held(_)) {
+            return None;
+        }
+        if let Some(kept) = change.keeps {
+            let known = find_id(&self.ids, kept.key)?.begun?.words();
+            return Some((known, kept.begun?.words()));
+        }
+        let found = find_id(&self.ids, change.frees?)?;
+        let known = found.begun?.words();
+        let shown = words_with(&known, &event.tells.words(), &found.lacks?);
+        Some((known, shown))
     }
 
     /// The requester of a flit, and what its line's observer is told; none of a credit, and of what isn't judged.
@@ -569,12 +648,18 @@ impl<A: Allocator + Copy> Watch<A> {
             before: &before,
             seen,
         };
+        if let Some(held) = self.held_words(event) {
+            let words = held.0;
+            let shown = held.1;
+            write_others(text, &shown, &words)?;
+            return known.write_words_if(text, words, flit);
+        }
         known.write_rule(text, flit, reason)?;
-        if known.lacks_known_words() && matches!(reason, Reason::OtherWords) {
+        if known.lacks_words() && self.is_last_beat(event) {
             return Ok(());
         }
         write!(text, "; allowed: ")?;
-        write_allowed(text, judge, &before, flit)
+        write_allowed(text, judge, &before, presented_to(seen, flit))
     }
 
     /// Puts by which line of the trace the id was opened behind the text, where a reason rests on one.

@@ -8,11 +8,11 @@ ghost use Rattle.chi_observe.specs.Lines.{lines_in};
 ghost use Rattle.chi_observe.specs.Grants.{granted, returned};
 ghost use Rattle.chi_observe.specs.Steps.{ids_after};
 ghost use Rattle.chi_observe.specs.Tables.{table_of};
-ghost use Rattle.chi_observe.specs.Watched.{IsCreditWatched, IsFlitWatched, IsWatched, agent_in, allowed, booking_after, counts_access, counts_after, counts_aside, counts_first, mark_if, nothing_watched, settled, table_in, watched};
+ghost use Rattle.chi_observe.specs.Watched.{IsCreditWatched, IsFlitWatched, IsWatched, agent_in, allowed, booking_after, counts_access, counts_after, counts_aside, counts_first, early_in, mark_if, nothing_watched, ready, settled, table_in, watched, with_early};
 
 use crate::credits::{AccountTable, Booking, account_numbers};
-use crate::events::{Event, LineEvent, Tells, news_of};
-use crate::ids::{CacheLine, IdKey, IdTable, OpenId, Sides, numbers_of};
+use crate::events::{Event, LineEvent, Tells, flit_by, news_of};
+use crate::ids::{CacheLine, IdKey, IdTable, Later, OpenId, Sides, numbers_of};
 use crate::judges::Before;
 use crate::left_over::close_id;
 use crate::lines::{LineStop, LineTable, LineTold, SpareMarks, tell};
@@ -20,7 +20,7 @@ use crate::nodes::{add_home, add_requester, agent_of};
 use crate::reasons::{IdReason, LineReason};
 use crate::steps::WatchOptions;
 use crate::tables::{Change, Part, Tables};
-use chi_flit::Agent;
+use chi_flit::{Agent, Data};
 use chi_trace::{NodeId, PcrdType};
 use indexmap::IndexMap;
 use std::alloc::{AllocError, Allocator};
@@ -156,8 +156,8 @@ impl Counts {
         ensures { IfSome result (λ counts. counts ≡ counts_after part aside fresh self) }
     {
         let counts = match part {
-            Part::Whole | Part::First(_) => self.with_first(fresh)?,
-            Part::Further | Part::Last(_) => self,
+            Part::Whole | Part::First(_) | Part::Known(_) => self.with_first(fresh)?,
+            Part::Further | Part::Held(_) | Part::Last(_) => self,
         };
         counts.with_aside(aside)
     }
@@ -171,6 +171,25 @@ pub(crate) fn mark_of(told: LineTold, line: CacheLine, number: usize) -> Option<
         Some(Aside { number, line })
     } else {
         None
+    }
+}
+
+/// The change by a first beat of data that tell this with all words, with the words for its later ones.
+fn early_change(told: Tells, later: Later, change: Change) -> Change
+    ensures { result ≡ with_early told later change }
+{
+    let keeps = match change.keeps {
+        Some(id) => Some(OpenId {
+            begun: Some(told),
+            later,
+            ..id
+        }),
+        None => None,
+    };
+    Change {
+        keeps,
+        part: Part::Known(told),
+        ..change
     }
 }
 
@@ -286,9 +305,56 @@ impl<A: Allocator> Watch<A> {
         match event.tells {
             Tells::NoForm(resp) => Err(IdReason::Form(resp)),
             Tells::Sent(_, _) | Tells::Given(_, _) | Tells::Unjudged => {
-                self.tables()
-                    .change(event.sides, &event.step, event.at, event.tells)
+                let change = self
+                    .tables()
+                    .change(event.sides, &event.step, event.at, event.tells)?;
+                Ok(self.ready(event, change))
             }
+        }
+    }
+
+    /// The agent that a flit's requester is; none where the flit isn't judged.
+    pub(crate) fn agent_in(&self, event: &LineEvent) -> Option<Agent>
+        ensures { result ≡ agent_in (watched self.now) event.now }
+    {
+        match event.tells {
+            Tells::Unjudged => None,
+            Tells::Sent(_, _) | Tells::Given(_, _) | Tells::NoForm(_) => {
+                agent_of(&self.requesters, &self.homes, event.sides)
+            }
+        }
+    }
+
+    /// What the words of a first beat of data are known to be, and what the later ones are then.
+    fn early_in(
+        &self,
+        event: &LineEvent,
+        line: CacheLine,
+        lacks: &[bool; 8],
+    ) -> Option<(Later, Data)>
+        ensures { result ≡ early_in (watched self.now) event.now line lacks.now }
+    {
+        let flit = flit_by(event.tells, self.agent_in(event))?;
+        match self.lines.get(&line.0) {
+            Some(seen) => seen.early(flit, lacks),
+            None => None,
+        }
+    }
+
+    /// The same, of data whose words are known at their first beat with all words.
+    fn ready(&self, event: &LineEvent, change: Change) -> Change
+        ensures { result ≡ ready (watched self.now) event.now change }
+    {
+        let early = match &change.part {
+            Part::First(lacks) => self.early_in(event, change.line, lacks),
+            _ => None,
+        };
+        match early {
+            Some(early) => {
+                let words = early.1;
+                early_change(event.tells.with_words(words), early.0, change)
+            }
+            None => change,
         }
     }
 
@@ -353,18 +419,6 @@ impl<A: Allocator> Watch<A> {
 }
 
 impl<A: Allocator + Copy> Watch<A> {
-    /// The agent that a flit's requester is; none where the flit isn't judged.
-    pub(crate) fn agent_in(&self, event: &LineEvent) -> Option<Agent>
-        ensures { result ≡ agent_in (watched self.now) event.now }
-    {
-        match event.tells {
-            Tells::Unjudged => None,
-            Tells::Sent(_, _) | Tells::Given(_, _) | Tells::NoForm(_) => {
-                agent_of(&self.requesters, &self.homes, event.sides)
-            }
-        }
-    }
-
     /// Takes a flit of a line that ids and credits allow.
     pub(crate) fn take_allowed(
         &mut self,

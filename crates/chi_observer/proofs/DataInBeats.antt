@@ -15,15 +15,17 @@ use Rattle.chi_observer.specs.declared.flits.Flit.TheVariants.{Up, Down}
 use Rattle.chi_observer.specs.declared.flits.Grant.{Grant}
 use Rattle.chi_observer.specs.declared.flits.Grant.TheVariants.{RetryAck, Snp, CompData, CompUC, CompSC, CompI, CompDBIDResp}
 use Rattle.chi_observer.specs.declared.wanted.Wanted.{Wanted}
-use Rattle.chi_observer.specs.declared.wanted.Wanted.TheVariants.{Nothing, Known, Any}
-use Rattle.chi_observer.specs.Rules.{allows, gives_data, has_data, is_resending, lets_go, looks, makes, reads_any, settles, tells_words}
-use Rattle.chi_observer.specs.Tables.{Known as Told, fills_told, fits_told, is_cancelled, most, renews, shows_told, told_behind, told_granted}
+use Rattle.chi_observer.specs.declared.wanted.Wanted.TheVariants.{Nothing, Known, Any, Free}
+use Rattle.chi_observer.specs.Copies.{is_unique, same}
+use Rattle.chi_observer.specs.Copies.Copy.{UniqueDirty}
+use Rattle.chi_observer.specs.Rules.{allows, gives_data, has_data, lets_go, looks, makes, reads_any, settles, tells_words}
+use Rattle.chi_observer.specs.Tables.{Known as Told, answer_tells_dirty, fills_told, fits_told, is_cancelled, most, renews, shows_told, told_behind, told_granted}
 use Rattle.chi_observer.specs.Judged.{is_judged}
 use Rattle.chi_observer.specs.Moments.{has_moment, shown_after, waits_after}
 use Rattle.chi_observer.specs.Observed.{Observed, current_after, differs, fits, fits_word, goes}
 use Rattle.chi_observer.specs.Worlds.{home_may, public_after, public_granted, put}
 use Rattle.chi_observer.specs.Lines.{Watched, is_taken, watch}
-use Rattle.chi_observer.specs.Wanted.{flit_with, flit_words, is_wordless, wanted, wanted_if, with_home}
+use Rattle.chi_observer.specs.Wanted.{cancelled_if, flit_with, flit_words, is_wordless, tells_cancelled, wanted, wanted_if, with_home}
 use Rattle.chi_observer.proofs.Finite.{no, left, right}
 
 -- flits without words
@@ -86,6 +88,11 @@ in_reach : (b : Bool) (w x : Wanted) → (if b then w else Nothing) ≡ x → x 
 in_reach true w x h n = (refl, h)
 in_reach false w x h n = absurd (n (sym h))
 
+given_reach : (b c : Bool) (w x : Wanted) → (if b then w else (if c then Free else Nothing)) ≡ x → x ≢ Nothing → x ≢ Free → (b ≡ true) × (w ≡ x)
+given_reach true c w x h n f = (refl, h)
+given_reach false true w x h n f = absurd (f (sym h))
+given_reach false false w x h n f = absurd (n (sym h))
+
 none_of : (a b : Bool) → (a || b) ≡ false → (a ≡ false) × (b ≡ false)
 none_of true b h = absurd (search (rules, arith))
 none_of false b h = (refl, h)
@@ -110,7 +117,7 @@ known_sent s f h t =
     let o = s.seen in
     let n = f.agent.0 in
     let renewed = renews o.public.stores f.act (lets_go (o.public.snooped n)) (o.public.due n) (o.told n) in
-    let k = (wanted_known (not (tells_words f.act) || is_resending (o.public.due n)) _ (in_reach (nat_lt n 32) _ Known h (λ e. absurd (search (rules, arith)))).1).1 in
+    let k = (wanted_known (not (tells_words f.act) || tells_cancelled o f) _ (in_reach (nat_lt n 32) _ Known h (λ e. absurd (search (rules, arith)))).1).1 in
     held (has_data f.act) renewed o.current (is_some o.home) _ k
     (left _ _ (right (fits_told o.public.stores f.act (lets_go (o.public.snooped n)) (o.public.due n) (o.told n)) _ (right (allows f.act (o.public.snooped n)) _ (right (nat_lt n 32) _ (right (is_judged (Up f)) _ t)))))
 
@@ -118,7 +125,7 @@ known_given : (s : Watched) (g : HomeFlit) → wanted s (Down g) ≡ Known → i
 known_given s g h t =
     let o = s.seen in
     let n = g.agent.0 in
-    let shows = (in_reach (shows_told g.grant (o.told n)) _ Known (in_reach (nat_lt n 32) _ Known h (λ e. absurd (search (rules, arith)))).1 (λ e. absurd (search (rules, arith)))).0 in
+    let shows = (given_reach (shows_told g.grant (o.told n)) (gives_data g.grant) _ Known (in_reach (nat_lt n 32) _ Known h (λ e. absurd (search (rules, arith)))).1 (λ e. absurd (search (rules, arith))) (λ e. absurd (search (rules, arith)))).0 in
     shown_fits (shows_told g.grant (o.told n)) _ shows
     (left _ _ (right (home_may o.public g) _ (right (has_moment o s.shown g) _ (right (nat_lt n 32) _ (right (is_judged (Down g)) _ t)))))
 
@@ -142,25 +149,43 @@ wanted_none : (k : Bool) → wanted_if k ≡ Any → k ≡ false
 wanted_none true h = absurd (search (rules, arith))
 wanted_none false h = refl
 
-cancelled_same : (a : Act) (d : Due) (k : Told) (x y : Bool) → is_resending d ≡ false → is_cancelled a d k x ≡ is_cancelled a d k y
-cancelled_same (SnpResp z) (Resending q) k x y h = no (sym h)
-cancelled_same (SnpResp z) other k x y h = refl
-cancelled_same (Load z) (Resending q) k x y h = refl
-cancelled_same (Load z) other k x y h = refl
-cancelled_same (Store z) (Resending q) k x y h = refl
-cancelled_same (Store z) other k x y h = refl
-cancelled_same other d k x y h = refl
+one_of : (a b c d x : Bool) → ((a || (b && (c && (true || d)))) && not (a || (b && (c && (false || d))))) ≡ false → (a || (b && (c && (x || d)))) ≡ (a || (b && (c && (false || d))))
+one_of true b c d x h = refl
+one_of false false c d x h = refl
+one_of false true false d x h = refl
+one_of false true true true true h = refl
+one_of false true true true false h = refl
+one_of false true true false x h = no (sym h)
+
+cancelled_same : (a : Act) (d : Due) (k : Told) (x : Bool) → (is_cancelled a d k true && not (is_cancelled a d k false)) ≡ false → is_cancelled a d k x ≡ is_cancelled a d k false
+cancelled_same (SnpResp z) (Resending q) k x h = one_of k.cancelled (answer_tells_dirty z) (is_unique (most k)) (not (same (most k) UniqueDirty)) x h
+cancelled_same (SnpResp z) other k x h = refl
+cancelled_same (Load z) (Resending q) k x h = refl
+cancelled_same (Load z) other k x h = refl
+cancelled_same (Store z) (Resending q) k x h = refl
+cancelled_same (Store z) other k x h = refl
+cancelled_same other d k x h = refl
+
+differs_not : (b current : Bool) (home : Option (List ℕ)) (v : List ℕ) → (current && is_some home) ≡ false → (b && (current && not (fits home v))) ≡ false
+differs_not false current home v h = refl
+differs_not true false home v h = refl
+differs_not true true None v h = refl
+differs_not true true (Some u) v h = no (sym h)
+
+by_known : (o : Observed) (f : CacheFlit) (k : Bool) → (o.current && is_some o.home) ≡ k → (k && (cancelled_if o f true && not (cancelled_if o f false))) ≡ false → cancelled_if o f (differs o f) ≡ cancelled_if o f false
+by_known o f true is h = cancelled_same f.act (o.public.due f.agent.0) (o.told f.agent.0) (differs o f) h
+by_known o f false is h = ap (cancelled_if o f) (differs_not (has_data f.act) o.current o.home f.shown is)
 
 any_sent : (s : Watched) (words : List ℕ) (f : CacheFlit) → wanted s (Up f) ≡ Any → (is_taken s (flit_with (Up f) words) ≡ is_taken s (Up f)) × (watch s (flit_with (Up f) words) ≡ with_home words (watch s (Up f)))
 any_sent s words f h =
     let o = s.seen in
     let n = f.agent.0 in
     let renewed = renews o.public.stores f.act (lets_go (o.public.snooped n)) (o.public.due n) (o.told n) in
-    let free = wanted_any (not (tells_words f.act) || is_resending (o.public.due n)) _ (in_reach (nat_lt n 32) _ Any h (λ e. absurd (search (rules, arith)))).1 in
-    let form = none_of (not (tells_words f.act)) (is_resending (o.public.due n)) free.0 in
+    let free = wanted_any (not (tells_words f.act) || tells_cancelled o f) _ (in_reach (nat_lt n 32) _ Any h (λ e. absurd (search (rules, arith)))).1 in
+    let form = none_of (not (tells_words f.act)) (tells_cancelled o f) free.0 in
     let tells : tells_words f.act ≡ true = turned (tells_words f.act) form.0 in
     let alike = any_fits (has_data f.act) renewed o.current o.home words free.1 ∙ sym (any_fits (has_data f.act) renewed o.current o.home f.shown free.1) in
-    let cancelled = cancelled_same f.act (o.public.due n) (o.told n) (differs o (record f { shown = words })) (differs o f) form.1 in
+    let cancelled = by_known o (record f { shown = words }) (o.current && is_some o.home) refl form.1 ∙ sym (by_known o f (o.current && is_some o.home) refl form.1) in
     let home : (if tells_words f.act then Some words else o.home) ≡ Some words = ap (λ (b : Bool). if b then Some words else o.home) tells in
     let next_so : Bool → Option (List ℕ) → Observed = λ c u. record {
       public = public_after f o.public;
@@ -181,7 +206,7 @@ any_given : (s : Watched) (words : List ℕ) (g : HomeFlit) → wanted s (Down g
 any_given s words g h =
     let o = s.seen in
     let n = g.agent.0 in
-    let given = in_reach (shows_told g.grant (o.told n)) _ Any (in_reach (nat_lt n 32) _ Any h (λ e. absurd (search (rules, arith)))).1 (λ e. absurd (search (rules, arith))) in
+    let given = given_reach (shows_told g.grant (o.told n)) (gives_data g.grant) _ Any (in_reach (nat_lt n 32) _ Any h (λ e. absurd (search (rules, arith)))).1 (λ e. absurd (search (rules, arith))) (λ e. absurd (search (rules, arith))) in
     let unknown = wanted_none (is_some o.home) given.1 in
     let alike = none_fits o.home words unknown ∙ sym (none_fits o.home g.shown unknown) in
     let home : (if shows_told g.grant (o.told n) then Some words else o.home) ≡ Some words = ap (λ (b : Bool). if b then Some words else o.home) given.0 in
@@ -203,3 +228,37 @@ any_given s words g h =
 pub any_taken : (s : Watched) (words : List ℕ) (e : Flit) → wanted s e ≡ Any → (is_taken s (flit_with e words) ≡ is_taken s e) × (watch s (flit_with e words) ≡ with_home words (watch s e))
 any_taken s words (Up f) = any_sent s words f
 any_taken s words (Down g) = any_given s words g
+
+-- words that tell nothing
+not_free : (b k : Bool) → (if b then Nothing else wanted_if k) ≢ Free
+not_free true k h = absurd (search (rules, arith))
+not_free false true h = absurd (search (rules, arith))
+not_free false false h = absurd (search (rules, arith))
+
+free_reach : (b c k : Bool) → (if b then wanted_if k else (if c then Free else Nothing)) ≡ Free → b ≡ false
+free_reach true c true h = absurd (search (rules, arith))
+free_reach true c false h = absurd (search (rules, arith))
+free_reach false c k h = refl
+
+pub free_taken : (s : Watched) (words : List ℕ) (e : Flit) → wanted s e ≡ Free → (is_taken s (flit_with e words) ≡ is_taken s e) × (watch s (flit_with e words) ≡ watch s e)
+free_taken s words (Up f) h = absurd (not_free (not (tells_words f.act) || tells_cancelled s.seen f) _ (in_reach (nat_lt f.agent.0 32) _ Free h (λ e. absurd (search (rules, arith)))).1)
+free_taken s words (Down g) h =
+    let o = s.seen in
+    let n = g.agent.0 in
+    let untold = free_reach (shows_told g.grant (o.told n)) (gives_data g.grant) (is_some o.home) (in_reach (nat_lt n 32) _ Free h (λ e. absurd (search (rules, arith)))).1 in
+    let home : (v : List ℕ) → (if shows_told g.grant (o.told n) then Some v else o.home) ≡ o.home = λ v. ap (λ (b : Bool). if b then Some v else o.home) untold in
+    let next_so : Option (List ℕ) → Observed = λ u. record {
+      public = public_granted g o.public;
+      told = put n (told_granted g.grant (o.public.due n) (o.told n)) o.told;
+      home = u;
+      current = settles g.grant (o.public.due n) || (o.current && not (makes g.grant (o.public.due n)));
+    } in
+    let so : Option (List ℕ) → Watched = λ u. record {
+      seen = next_so u;
+      waits = waits_after (next_so u) (Down g) s.waits;
+      shown = λ m. waits_after (next_so u) (Down g) s.waits && shown_after (next_so u) (Down g) s.shown m;
+    } in
+    let takes : List ℕ → Bool → Bool = λ v b. is_judged (Down g) && (nat_lt n 32 && (has_moment o s.shown g && (home_may o.public g && ((not b || fits o.home v) && ((not (fills_told g.grant (o.told n)) || o.current) && goes o g))))) in (
+      ap (takes words) untold ∙ sym (ap (takes g.shown) untold),
+      (λ i. so (home words i)) ∙ sym (λ i. so (home g.shown i)),
+    )

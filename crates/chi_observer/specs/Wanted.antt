@@ -1,33 +1,47 @@
 -- What the words of data have to be, where the line takes all else of their flit (docs/OBSERVER.md, "Data in beats").
-use Rattle.std.specs.Prelude.{◌≡◌, ℕ, List, Some, ◌&&◌, ◌||◌, Bool, true, not, if◌then◌else◌, is_some, nat_lt}
+use Rattle.std.specs.Prelude.{◌≡◌, ℕ, List, Some, ◌&&◌, ◌||◌, Bool, true, false, not, if◌then◌else◌, is_some, nat_lt}
 use Rattle.chi_observer.specs.declared.flits.CacheFlit.{CacheFlit}
 use Rattle.chi_observer.specs.declared.flits.HomeFlit.{HomeFlit}
 use Rattle.chi_observer.specs.declared.flits.Flit.{Flit}
 use Rattle.chi_observer.specs.declared.flits.Flit.TheVariants.{Up, Down}
 use Rattle.chi_observer.specs.declared.wanted.Wanted.{Wanted}
-use Rattle.chi_observer.specs.declared.wanted.Wanted.TheVariants.{Nothing, Known, Any}
-use Rattle.chi_observer.specs.Rules.{gives_data, has_data, is_resending, lets_go, looks, tells_words}
-use Rattle.chi_observer.specs.Tables.{renews, shows_told}
+use Rattle.chi_observer.specs.declared.wanted.Wanted.TheVariants.{Nothing, Known, Any, Free}
+use Rattle.chi_observer.specs.Rules.{gives_data, has_data, lets_go, looks, reads_any, tells_words}
+use Rattle.chi_observer.specs.Tables.{is_cancelled, most, renews, shows_told}
 use Rattle.chi_observer.specs.Observed.{Observed, fits}
 use Rattle.chi_observer.specs.Lines.{Watched, is_taken, watch}
 
 abbrev pub wanted_if : Bool → Wanted
 wanted_if known = if known then Known else Any
 
--- Data of a cache are the home's words, where the value last stored is and no store may have come since; else any. Behind a
--- request that was retried, words that differ tell besides that it is cancelled.
+-- behind a request that was retried, words that differ from the known ones may tell besides that it is cancelled
+abbrev pub cancelled_if : Observed → CacheFlit → Bool → Bool
+cancelled_if o f differ = is_cancelled f.act (o.public.due f.agent.0) (o.told f.agent.0) differ
+
+abbrev pub tells_cancelled : Observed → CacheFlit → Bool
+tells_cancelled o f = (o.current && is_some o.home) && (cancelled_if o f true && not (cancelled_if o f false))
+
+-- data of a cache are the home's words, where the value last stored is and no store may have come since; else any
 abbrev pub wanted_sent : Observed → CacheFlit → Wanted
 wanted_sent o f =
-    if not (tells_words f.act) || is_resending (o.public.due f.agent.0) then Nothing
+    if not (tells_words f.act) || tells_cancelled o f then Nothing
     else wanted_if (has_data f.act && (not (renews o.public.stores f.act (lets_go (o.public.snooped f.agent.0)) (o.public.due f.agent.0) (o.told f.agent.0)) && (o.current && is_some o.home)))
 
--- data of the home are its own words, but beside a dirty copy
+-- data of the home are its own words; those that come to a dirty copy tell nothing
 abbrev pub wanted_given : Observed → HomeFlit → Wanted
-wanted_given o g = if shows_told g.grant (o.told g.agent.0) then wanted_if (is_some o.home) else Nothing
+wanted_given o g = if shows_told g.grant (o.told g.agent.0) then wanted_if (is_some o.home) else if gives_data g.grant then Free else Nothing
 
 abbrev pub wanted : Watched → Flit → Wanted
 wanted s (Up f) = if nat_lt f.agent.0 32 then wanted_sent s.seen f else Nothing
 wanted s (Down g) = if nat_lt g.agent.0 32 then wanted_given s.seen g else Nothing
+
+-- a load reads the home's word, which is known, where the value last stored is and no store may have come since
+abbrev pub reads_home_sent : Observed → CacheFlit → Bool
+reads_home_sent o f = looks f.act && (not (reads_any o.public.stores (o.public.due f.agent.0) (most (o.told f.agent.0))) && (o.current && is_some o.home))
+
+abbrev pub reads_home : Watched → Flit → Bool
+reads_home s (Up f) = nat_lt f.agent.0 32 && reads_home_sent s.seen f
+reads_home s (Down g) = false
 
 -- the words of a flit, and the flit with other ones
 abbrev pub flit_words : Flit → List ℕ
@@ -54,6 +68,10 @@ WordlessFlitsAreApart = (s : Watched) (words : List ℕ) (e : Flit) → is_wordl
 -- Data whose words may be any are taken with any, and all that their words change is the home's.
 abbrev pub AnyWordsAreTaken : Type 0
 AnyWordsAreTaken = (s : Watched) (words : List ℕ) (e : Flit) → wanted s e ≡ Any → (is_taken s (flit_with e words) ≡ is_taken s e) × (watch s (flit_with e words) ≡ with_home words (watch s e))
+
+-- Data that tell nothing by their words are taken with any.
+abbrev pub FreeWordsAreTaken : Type 0
+FreeWordsAreTaken = (s : Watched) (words : List ℕ) (e : Flit) → wanted s e ≡ Free → (is_taken s (flit_with e words) ≡ is_taken s e) × (watch s (flit_with e words) ≡ watch s e)
 
 -- Data whose words are to be known are taken with the home's words alone.
 abbrev pub KnownWordsAreTaken : Type 0

@@ -325,7 +325,7 @@ impl AgentSeen {
 
     /// Whether a load of its copy may be of any word: a store that nobody saw may be done to it, if only behind the
     /// CompAck.
-    fn reads_any(self, stores: Stores) -> bool
+    pub(crate) fn reads_any(self, stores: Stores) -> bool
         ensures { result ≡ reads_any stores self.due (strongest self.told) }
     {
         matches!(stores, Stores::Hidden) && self.told.may_store(self.due)
@@ -352,7 +352,7 @@ impl AgentSeen {
 
     /// Whether the request that was retried is surely cancelled behind the flit; `differs` says that its words aren't
     /// the known ones.
-    fn is_cancelled(self, act: Act, differs: bool) -> bool
+    pub(crate) fn is_cancelled(self, act: Act, differs: bool) -> bool
         ensures { result ≡ is_cancelled act self.due (known_of self) differs }
     {
         match (act, self.due) {

@@ -2,13 +2,13 @@
 
 ghost use Rattle.std.specs.Prelude.{◌≡◌, ◌<◌, ◌&&◌, not};
 ghost use Rattle.chi_observer.specs.Lines.{known_of, watched};
-ghost use Rattle.chi_observer.specs.Rules.{is_resending};
+ghost use Rattle.chi_observer.specs.Rules.{gives_data, looks};
 ghost use Rattle.chi_observer.specs.Tables.{renews};
-ghost use Rattle.chi_observer.specs.Wanted.{AnyWordsAreTaken, KnownWordsAreTaken, WordlessFlitsAreApart, wanted, wanted_if, wanted_given, wanted_sent};
+ghost use Rattle.chi_observer.specs.Wanted.{AnyWordsAreTaken, FreeWordsAreTaken, KnownWordsAreTaken, WordlessFlitsAreApart, reads_home, reads_home_sent, wanted, wanted_if, wanted_given, wanted_sent};
 
-use crate::flits::{CacheFlit, Due, Flit, HomeFlit};
+use crate::flits::{CacheFlit, Flit, HomeFlit};
 use crate::observer::Observer;
-use crate::rules::{has_data, lets_go, tells_words};
+use crate::rules::{gives_data, has_data, lets_go, looks, tells_words};
 
 /// What the words of data have to be, where the line takes all else of their flit.
 /// Source: `docs/OBSERVER.md`, "Data in beats".
@@ -20,15 +20,18 @@ pub enum Wanted {
     Known,
     /// Any: the home has them then.
     Any,
+    /// Any, and nothing is told by them: they come to a copy that is dirty.
+    Free,
 }
 
 /// The law by which data in beats are told at their first beat: flits without words go on whatever the home's words are, and
-/// leave them; data whose words may be any are taken with any, and change the home's words by them alone; and those whose
-/// words are to be known are taken with the home's alone.
+/// leave them; data whose words may be any are taken with any, and change the home's words by them alone, or nothing; and
+/// those whose words are to be known are taken with the home's alone.
 /// Source: `docs/OBSERVER.md`, "Data in beats".
 pub fn data_in_beats()
     ensures apart { WordlessFlitsAreApart }
     ensures any { AnyWordsAreTaken }
+    ensures free { FreeWordsAreTaken }
     ensures known { KnownWordsAreTaken }
 {}
 
@@ -56,18 +59,20 @@ impl Observer {
         }
     }
 
-    /// The same of a flit of a cache. Behind a request that was retried, dirty data with other words tell that it is
-    /// cancelled.
+    /// The same of a flit of a cache. Behind a request that was retried, words that are others than the home's may tell that
+    /// it is cancelled.
     fn wanted_sent(&self, flit: CacheFlit) -> Wanted
         requires { flit.agent.0 < 32 }
         ensures { result ≡ wanted_sent (watched self.now).seen flit }
     {
         let agent = self.agents[usize::from(flit.agent.0)];
-        if !tells_words(flit.act) || is_resending(agent.due) {
+        let known = self.current && self.home.is_some();
+        let cancels = agent.is_cancelled(flit.act, true) && !agent.is_cancelled(flit.act, false);
+        if !tells_words(flit.act) || (known && cancels) {
             return Wanted::Nothing;
         }
         let renewed = agent.is_renewed(self.stores, flit.act, lets_go(agent.snooped));
-        wanted_if(has_data(flit.act) && (!renewed && (self.current && self.home.is_some())))
+        wanted_if(has_data(flit.act) && (!renewed && known))
     }
 
     /// The same of a flit of the home.
@@ -78,9 +83,31 @@ impl Observer {
         let agent = self.agents[usize::from(flit.agent.0)];
         if agent.is_shown(flit.grant) {
             wanted_if(self.home.is_some())
+        } else if gives_data(flit.grant) {
+            Wanted::Free
         } else {
             Wanted::Nothing
         }
+    }
+
+    /// Whether a flit is a load whose word has to be the home's, which is known.
+    /// Source: `docs/OBSERVER.md`, "Data in beats".
+    pub fn reads_home(&self, flit: Flit) -> bool
+        ensures { result ≡ reads_home (watched self.now) flit }
+    {
+        match flit {
+            Flit::Up(sent) => sent.agent.0 < 32 && self.reads_home_sent(sent),
+            Flit::Down(_) => false,
+        }
+    }
+
+    /// The same of a flit of a cache.
+    fn reads_home_sent(&self, flit: CacheFlit) -> bool
+        requires { flit.agent.0 < 32 }
+        ensures { result ≡ reads_home_sent (watched self.now).seen flit }
+    {
+        let any = self.agents[usize::from(flit.agent.0)].reads_any(self.stores);
+        looks(flit.act) && (!any && (self.current && self.home.is_some()))
     }
 }
 
@@ -89,11 +116,4 @@ fn wanted_if(known: bool) -> Wanted
     ensures { result ≡ wanted_if known }
 {
     if known { Wanted::Known } else { Wanted::Any }
-}
-
-/// Whether a request that was retried is to be sent again, or was cancelled.
-fn is_resending(due: Due) -> bool
-    ensures { result ≡ is_resending due }
-{
-    matches!(due, Due::Resending(_))
 }
