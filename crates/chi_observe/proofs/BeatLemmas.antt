@@ -1,6 +1,6 @@
 -- Data in beats beside whole data in the place of their first beat.
 use Rattle.std.proofs.Common.{rules, arith, ◌≡◌, ◌≢◌, ◌==◌, ℕ, List, refl, sym, ap, subst, ◌∙◌, true≢false}
-use Rattle.std.specs.Prelude.{Bool, true, false, ◌&&◌, ◌||◌, not, nat_lt, nat_eq, Option, Some, None, is_some, option_map, [], ◌∷◌, ◌++◌, if◌then◌else◌}
+use Rattle.std.specs.Prelude.{Bool, true, false, ◌&&◌, ◌||◌, not, nat_lt, nat_eq, Option, Some, None, is_some, option_map, unwrap_or, [], ◌∷◌, ◌++◌, if◌then◌else◌}
 use Rattle.std.specs.List.{slice_index_or}
 use Rattle.std.specs.Cmp.Lexicographic.{pointwise}
 use Rattle.chi_trace.specs.declared.fields.NodeId.{NodeId}
@@ -13,6 +13,7 @@ use Rattle.chi_observer.specs.declared.wanted.Wanted.{Wanted}
 use Rattle.chi_observer.specs.declared.wanted.Wanted.TheVariants as wants
 use Rattle.chi_observer.specs.Rules.{gives_data, has_data, lets_go, looks, tells_words}
 use Rattle.chi_observer.specs.Tables.{renews, shows_told}
+use Rattle.chi_observer.specs.Listed.{no_words}
 use Rattle.chi_observer.specs.Observed.{fits}
 use Rattle.chi_observer.specs.Lines.{Watched, is_taken, watch}
 use Rattle.chi_observer.specs.Wanted.{AnyWordsAreTaken, FreeWordsAreTaken, KnownWordsAreTaken, WordlessFlitsAreApart, flit_with, flit_words, is_wordless, reads_home, tells_cancelled, wanted, wanted_given, wanted_if, wanted_sent, with_home}
@@ -24,10 +25,10 @@ use Rattle.chi_observe.specs.declared.lines.LineNews.{LineNews}
 use Rattle.chi_observe.specs.declared.lines.LineNews.TheVariants as news
 use Rattle.chi_observe.specs.Judges.{Before, Judged, known_if}
 use Rattle.chi_observe.specs.Judges.Judged.{FromStart}
-use Rattle.chi_observe.specs.Lines.{LineState, apart_of, begun_next, early_by, early_of, flit_next, is_given, is_passed, is_wanted_free, is_wanted_known, lacking_shown, lacking_with, lacks_of, line_next, marked_words, may_show, next_by, presented, presented_by, put_aside, shown_more, shown_next, shown_words, showing_by, takes_begun, takes_flit, takes_line, wanted_of, with_shown}
+use Rattle.chi_observe.specs.Lines.{LineState, apart_of, begun_next, early_by, early_of, flit_next, is_given, is_passed, is_wanted_free, is_wanted_known, lacking_shown, lacking_with, lacks_of, line_next, marked_words, may_show, next_by, presented, put_aside, shown_more, shown_next, shown_words, showing_by, takes_begun, takes_flit, takes_line, wanted_of, with_shown}
 use Rattle.chi_observe.specs.Marks.{Marked, marks_after, shows_words}
 use Rattle.chi_observe.specs.InBeats.{AreAlike, BeatsAreOneFlit, all_wordless, behind_all, in_one, in_two, is_told_any, judged_line, takes_all, told_of}
-use Rattle.chi_observe.specs.Words.{agrees, agrees_word, left_of, no_words, word_at, word_with, words_with}
+use Rattle.chi_observe.specs.Words.{agrees, agrees_word, but_known, left_of, none_lack, with_known, word_at, word_with, words_with}
 use Rattle.chi_observe.proofs.EqualFlits.{words as same_words}
 
 -- marks
@@ -147,10 +148,10 @@ not_showing lacks.Nothing h v y m f w = refl
 not_showing lacks.Data h v y m f w = refl
 not_showing (lacks.Words unknown others had) h v y m f w = ap (λ (b : Bool). b && may_show (lacks.Words unknown others had) (is_given f) (lacks_of f)) (shows_nothing (with_home v y) f w)
 
-goes_apart : (l : Lacking) (s : LineState) (f : Flit) → is_early l ≡ true → is_wordless f ≡ true → apart_of l s f ≡ true
-goes_apart lacks.Nothing s f e w = refl
-goes_apart lacks.Data s f e w = untrue e
-goes_apart (lacks.Words unknown others had) s f e w = ap (λ (b : Bool). not b || is_wanted_free (wanted_of s f)) (shows_none f w)
+goes_apart : (l : Lacking) (h : NodeId) (v : List ℕ) (y : Watched) (m : Marked) (f : Flit) → is_early l ≡ true → is_wordless f ≡ true → apart_of l (line_of h l v y m) f ≡ true
+goes_apart lacks.Nothing h v y m f e w = refl
+goes_apart lacks.Data h v y m f e w = untrue e
+goes_apart (lacks.Words unknown others had) h v y m f e w = ap (λ (b : Bool). (not b || is_wanted_free (wanted_of (line_of h (lacks.Words unknown others had) v y m) f)) && true) (shows_none f w)
 
 passed_by : (b : Bool) (t : Judged) → is_passed (known_if b t) ≡ b
 passed_by true t = refl
@@ -163,7 +164,7 @@ takes_step apart before home h l v y m n f e w =
     let s = line_of h l v y m in
     let here = h.0 == home.0 && is_passed (known_if (is_taken (with_home v y) f) (FromStart (watch (with_home v y) f))) in
     ap (λ (b : Bool). if b then takes_flit before s home n (Some (presented s f (lacks_of f))) else not (apart_of l s f) || here) (not_showing l h v y m f w)
-    ∙ (ap (λ (b : Bool). not b || here) (goes_apart l s f e w)
+    ∙ (ap (λ (b : Bool). not b || here) (goes_apart l h v y m f e w)
     ∙ ap (λ (b : Bool). h.0 == home.0 && b) (passed_by (is_taken (with_home v y) f) (FromStart (watch (with_home v y) f)) ∙ (apart y v f w).0))
 
 abbrev marks_at : Bool → ℕ → Flit → List ℕ → Marked → Marked
@@ -181,7 +182,7 @@ next_step apart before h l v y m n f e w =
     let s = line_of h l v y m in
     let same = apart y v f w in
     ap (λ (b : Bool). if b then shown_next before s n f (lacks_of f) (lacking_shown l (lacks_of f)) else (if apart_of l s f then flit_next before s n (Some f) else put_aside s)) (not_showing l h v y m f w)
-    ∙ (ap (λ (b : Bool). if b then flit_next before s n (Some f) else put_aside s) (goes_apart l s f e w)
+    ∙ (ap (λ (b : Bool). if b then flit_next before s n (Some f) else put_aside s) (goes_apart l h v y m f e w)
     ∙ ((λ i. next_by (known_if (same.0 i) (FromStart (same.1 i))) s n f)
     ∙ next_at (is_taken y f) h l v y (watch y f) m n f))
 
@@ -442,42 +443,43 @@ of_free free before own home w m n k e lacking words ps is =
 any_is_wanted : wants.Any ≢ wants.Nothing
 any_is_wanted h = search (rules, arith)
 
-abbrev first_words : Option (List ℕ) → Flit → List Bool → List ℕ
-first_words None e lacking = flit_words e
-first_words (Some h) e lacking = words_with (words_with (shown_words e) h lacking) h no_words
+abbrev home_words : Watched → Flit → List ℕ
+home_words w e = unwrap_or w.seen.home (shown_words e)
 
-presented_is : (home : Option (List ℕ)) (e : Flit) (lacking : List Bool) → IsData e → presented_by home no_words e lacking ≡ flit_with e (first_words home e lacking)
-presented_is None e lacking d = sym (with_own e)
-presented_is (Some h) e lacking d = d.shown (words_with (words_with (shown_words e) h lacking) h no_words)
+abbrev first_words : Watched → Flit → List Bool → List ℕ
+first_words w e lacking = words_with (words_with (shown_words e) (with_known no_words (home_words w e)) lacking) (home_words w e) none_lack
+
+presented_is : (own : NodeId) (w : Watched) (m : Marked) (e : Flit) (lacking : List Bool) → IsData e → presented (judged_line own w m) e lacking ≡ flit_with e (first_words w e lacking)
+presented_is own w m e lacking d = d.shown (first_words w e lacking)
 
 -- the home's words behind the first beat
 abbrev begun_words : Watched → Flit → List Bool → List ℕ
-begun_words w e lacking = words_with (first_words w.seen.home e lacking) (shown_words e) (left_of no_words lacking)
+begun_words w e lacking = words_with (first_words w e lacking) (shown_words e) (left_of none_lack lacking)
 
 takes_begin : AnyWordsAreTaken → (before : Before) (own home : NodeId) (w : Watched) (m : Marked) (n : ℕ) (e : Flit) (lacking : List Bool) → wanted w e ≡ wants.Any
     → takes_line before (judged_line own w m) home n (news.Begun e lacking) ≡ (own.0 == home.0 && is_taken w e)
 unfolding takes_line
 takes_begin any before own home w m n e lacking is =
     let d = is_data w e (λ none. any_is_wanted (sym is ∙ none)) in
-    let f = presented_by w.seen.home no_words e lacking in
-    ap (λ (x : Wanted). takes_begun (lacking_with lacks.Nothing x (is_given e) lacking) before (judged_line own w m) home n f) is
-    ∙ ap (λ (b : Bool). own.0 == home.0 && b) (passed_by (is_taken w f) (FromStart (watch w f)) ∙ (ap (is_taken w) (presented_is w.seen.home e lacking d) ∙ (any w (first_words w.seen.home e lacking) e is).0))
+    let f = presented (judged_line own w m) e lacking in
+    ap (λ (x : Wanted). takes_begun (lacking_with lacks.Nothing x (is_given e) lacking no_words) before (judged_line own w m) home n f) is
+    ∙ ap (λ (b : Bool). own.0 == home.0 && b) (passed_by (is_taken w f) (FromStart (watch w f)) ∙ (ap (is_taken w) (presented_is own w m e lacking d) ∙ (any w (first_words w e lacking) e is).0))
 
 begin_runs : AnyWordsAreTaken → (before : Before) (own : NodeId) (w : Watched) (m : Marked) (n : ℕ) (e : Flit) (lacking : List Bool) → wanted w e ≡ wants.Any → is_taken w e ≡ true
-    → Runs (line_next before (judged_line own w m) n (news.Begun e lacking)) own (lacks.Words lacking 0 (is_given e)) (begun_words w e lacking) (watch w e)
+    → Runs (line_next before (judged_line own w m) n (news.Begun e lacking)) own (lacks.Words (but_known no_words lacking) 0 (is_given e)) (begun_words w e lacking) (watch w e)
 unfolding line_next
 begin_runs any before own w m n e lacking is taken =
     let d = is_data w e (λ none. any_is_wanted (sym is ∙ none)) in
-    let u = first_words w.seen.home e lacking in
-    let f = presented_by w.seen.home no_words e lacking in
-    let as_it = presented_is w.seen.home e lacking d in
+    let u = first_words w e lacking in
+    let f = presented (judged_line own w m) e lacking in
+    let as_it = presented_is own w m e lacking d in
     let takes = ap (is_taken w) as_it ∙ ((any w u e is).0 ∙ taken) in
     let next = ap (watch w) as_it ∙ (any w u e is).1 in
     let s = judged_line own w m in
     record {
       marks = record (marks_after n f (Some u) m) { words = n };
-      is = ap (λ (x : Wanted). begun_next (lacking_with lacks.Nothing x (is_given e) lacking) before s n e lacking) is
-          ∙ (λ i. marked_words n (record (shown_more (next_by (known_if (takes i) (FromStart (next i))) s n f) e lacking) { lacking = lacks.Words lacking 0 (is_given e) }));
+      is = ap (λ (x : Wanted). begun_next (lacking_with lacks.Nothing x (is_given e) lacking no_words) before s n e lacking) is
+          ∙ (λ i. marked_words n (record (shown_more (next_by (known_if (takes i) (FromStart (next i))) s n f) e lacking) { lacking = lacks.Words (but_known no_words lacking) 0 (is_given e) }));
     }
 
 whole_runs : AnyWordsAreTaken → (before : Before) (own : NodeId) (w : Watched) (m : Marked) (n : ℕ) (e : Flit) (v : List ℕ) → wanted w e ≡ wants.Any → is_taken w e ≡ true
@@ -509,35 +511,19 @@ one_agrees : (l : Bool) (a h x : ℕ) → x ≡ word_with a x l → agrees_word 
 one_agrees true a h x e = refl
 one_agrees false a h x e = ap (λ (y : ℕ). a == y) e ∙ same_number a
 
-own_agrees : (l : Bool) (a x : ℕ) → x ≡ word_with a x l → agrees_word l a x ≡ true
-own_agrees true a x e = refl
-own_agrees false a x e = ap (λ (y : ℕ). a == y) e ∙ same_number a
-
 all_of : (a b c d e f g h : Bool) → a ≡ true → b ≡ true → c ≡ true → d ≡ true → e ≡ true → f ≡ true → g ≡ true → h ≡ true → (a && b && c && d && e && f && g && h) ≡ true
 all_of a b c d e f g h pa pb pc pd pe pf pg ph = λ i. pa i && pb i && pc i && pd i && pe i && pf i && pg i && ph i
 
-last_agrees : (home : Option (List ℕ)) (e : Flit) (lacking : List Bool) (words : List ℕ) → IsData e → words_with (flit_words e) words lacking ≡ words
-    → agrees lacking (Some (words_with (first_words home e lacking) (shown_words e) (left_of no_words lacking))) words ≡ true
-last_agrees None e lacking words d agree =
-    let own = flit_words e in
-    let word : (n : ℕ) → ℕ = λ n. slice_index_or own n 0 in
-    let there : (n : ℕ) → slice_index_or words n 0 ≡ slice_index_or (words_with own words lacking) n 0 = λ n. ap (λ (v : List ℕ). slice_index_or v n 0) (sym agree) in
-    all_of _ _ _ _ _ _ _ _
-    (own_agrees (word_at lacking 0) (word 0) (slice_index_or words 0 0) (there 0)) (own_agrees (word_at lacking 1) (word 1) (slice_index_or words 1 0) (there 1))
-    (own_agrees (word_at lacking 2) (word 2) (slice_index_or words 2 0) (there 2)) (own_agrees (word_at lacking 3) (word 3) (slice_index_or words 3 0) (there 3))
-    (own_agrees (word_at lacking 4) (word 4) (slice_index_or words 4 0) (there 4)) (own_agrees (word_at lacking 5) (word 5) (slice_index_or words 5 0) (there 5))
-    (own_agrees (word_at lacking 6) (word 6) (slice_index_or words 6 0) (there 6)) (own_agrees (word_at lacking 7) (word 7) (slice_index_or words 7 0) (there 7))
-last_agrees (Some h) e lacking words d agree =
+last_agrees : (w : Watched) (e : Flit) (lacking : List Bool) (words : List ℕ) → IsData e → words_with (flit_words e) words lacking ≡ words → agrees (but_known no_words lacking) (Some (begun_words w e lacking)) words ≡ true
+last_agrees w e lacking words d agree =
     let own = shown_words e in
     let word : (n : ℕ) → ℕ = λ n. slice_index_or own n 0 in
-    let old : (n : ℕ) → ℕ = λ n. slice_index_or h n 0 in
+    let old : (n : ℕ) → ℕ = λ n. slice_index_or (home_words w e) n 0 in
     let as_own : words_with own words lacking ≡ words = ap (λ (v : List ℕ). words_with v words lacking) d.words ∙ agree in
     let there : (n : ℕ) → slice_index_or words n 0 ≡ slice_index_or (words_with own words lacking) n 0 = λ n. ap (λ (v : List ℕ). slice_index_or v n 0) (sym as_own) in
-    all_of _ _ _ _ _ _ _ _
-    (one_agrees (word_at lacking 0) (word 0) (old 0) (slice_index_or words 0 0) (there 0)) (one_agrees (word_at lacking 1) (word 1) (old 1) (slice_index_or words 1 0) (there 1))
-    (one_agrees (word_at lacking 2) (word 2) (old 2) (slice_index_or words 2 0) (there 2)) (one_agrees (word_at lacking 3) (word 3) (old 3) (slice_index_or words 3 0) (there 3))
-    (one_agrees (word_at lacking 4) (word 4) (old 4) (slice_index_or words 4 0) (there 4)) (one_agrees (word_at lacking 5) (word 5) (old 5) (slice_index_or words 5 0) (there 5))
-    (one_agrees (word_at lacking 6) (word 6) (old 6) (slice_index_or words 6 0) (there 6)) (one_agrees (word_at lacking 7) (word 7) (old 7) (slice_index_or words 7 0) (there 7))
+    let at : (n : ℕ) → slice_index_or words n 0 ≡ word_with (word n) (slice_index_or words n 0) (word_at lacking n) → agrees_word (word_at lacking n && true) (word_with (word n) (old n) (word_at lacking n)) (slice_index_or words n 0) ≡ true =
+    λ n same. ap (λ (b : Bool). agrees_word b (word_with (word n) (old n) (word_at lacking n)) (slice_index_or words n 0)) (and_true (word_at lacking n)) ∙ one_agrees (word_at lacking n) (word n) (old n) (slice_index_or words n 0) same in
+    all_of _ _ _ _ _ _ _ _ (at 0 (there 0)) (at 1 (there 1)) (at 2 (there 2)) (at 3 (there 3)) (at 4 (there 4)) (at 5 (there 5)) (at 6 (there 6)) (at 7 (there 7))
 
 begun_alike : WordlessFlitsAreApart → AnyWordsAreTaken → (before : Before) (own home : NodeId) (w : Watched) (m : Marked) (n k : ℕ) (e : Flit) (lacking : List Bool) (words : List ℕ) (ps : List (ℕ × Flit)) (t : Bool)
     → wanted w e ≡ wants.Any → words_with (flit_words e) words lacking ≡ words → all_wordless ps ≡ true → is_taken w e ≡ t → Alike before own home w m n k e lacking words ps None
@@ -559,22 +545,22 @@ begun_alike apart any before own home w m n k e lacking words ps true is agree w
     let whole = line_next before s n (news.Flit (Some end)) in
     let run = begin_runs any before own w m n e lacking is taken in
     let run_whole = whole_runs any before own w m n e words is taken in
-    let behind = all_run apart before own (lacks.Words lacking 0 (is_given e)) v refl ps ws begun z run in
+    let behind = all_run apart before own (lacks.Words (but_known no_words lacking) 0 (is_given e)) v refl ps ws begun z run in
     let behind_whole = all_run apart before own lacks.Nothing words refl ps ws whole z run_whole in
     let first = takes_begin any before own home w m n e lacking is in
     let entire = takes_whole before own home w m n end ∙ ap (λ (b : Bool). c && b) (any w words e is).0 in
     let last : (takes_line before (behind_all before begun (told_of ps)) home k (news.Ended (Some end)) && true) ≡ true =
     ap (λ (y : LineState). takes_line before y home k (news.Ended (Some end)) && true) behind.is
-    ∙ ap (λ (b : Bool). b && true) (takes_last before home own lacking (is_given e) v (through z ps) behind.marks k end ∙ (ap (λ (x : List ℕ). agrees lacking (Some v) x) (d.all words) ∙ last_agrees w.seen.home e lacking words d agree)) in
+    ∙ ap (λ (b : Bool). b && true) (takes_last before home own (but_known no_words lacking) (is_given e) v (through z ps) behind.marks k end ∙ (ap (λ (x : List ℕ). agrees (but_known no_words lacking) (Some v) x) (d.all words) ∙ last_agrees w e lacking words d agree)) in
     let rest = takes_both before home begun (told_of ps) ((k, news.Ended (Some end)) ∷ [])
     ∙ (opened (takes_all before home begun (told_of ps)) (takes_line before (behind_all before begun (told_of ps)) home k (news.Ended (Some end)) && true) last
-    ∙ all_taken apart before home own (lacks.Words lacking 0 (is_given e)) v refl ps ws begun z run) in
+    ∙ all_taken apart before home own (lacks.Words (but_known no_words lacking) 0 (is_given e)) v refl ps ws begun z run) in
     let others = all_taken apart before home own lacks.Nothing words refl ps ws whole z run_whole in
     record {
       taken = (λ i. first i && rest i) ∙ sym (λ i. entire i && others i);
       told = λ h. ap (λ (y : LineState). y.told) (behind_both before begun (told_of ps) ((k, news.Ended (Some end)) ∷ []))
           ∙ (ap (λ (y : LineState). (line_next before y k (news.Ended (Some end))).told) behind.is
-          ∙ (told_last before own lacking (is_given e) v (through z ps) behind.marks k end
+          ∙ (told_last before own (but_known no_words lacking) (is_given e) v (through z ps) behind.marks k end
           ∙ (ap (λ (x : List ℕ). FromStart (with_home x (through z ps))) (d.all words) ∙ sym (ap (λ (y : LineState). y.told) behind_whole.is))));
     }
 

@@ -1,5 +1,6 @@
 pub mod SplitLemmas
 pub mod StreamLemmas
+pub mod WordLemmas
 pub mod ReportLemmas
 pub mod MarkLemmas
 pub mod LineLemmas

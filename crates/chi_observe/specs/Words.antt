@@ -1,6 +1,7 @@
 -- The words of a line, some of which lack (docs/OBSERVER.md, "Data in beats").
-use Rattle.std.specs.Prelude.{ℕ, ◌==◌, ◌&&◌, ◌||◌, Bool, false, not, List, [], ◌∷◌, Option, Some, None, if◌then◌else◌, replicate}
+use Rattle.std.specs.Prelude.{ℕ, ◌==◌, ◌&&◌, ◌||◌, Bool, false, not, List, [], ◌∷◌, Option, Some, None, if◌then◌else◌, is_some, replicate, unwrap_or}
 use Rattle.std.specs.List.{list_any, slice_index_or}
+use Rattle.chi_observer.specs.Listed.{Words}
 
 -- words in the places of those that are there
 abbrev pub word_at : List Bool → ℕ → Bool
@@ -33,8 +34,8 @@ abbrev pub lacks_some : List Bool → Bool
 lacks_some left = list_any (λ lacks. lacks) left
 
 -- none, and all but one
-abbrev pub no_words : List Bool
-no_words = replicate 8 false
+abbrev pub none_lack : List Bool
+none_lack = replicate 8 false
 
 abbrev pub but_one : ℕ → List Bool
 but_one place =
@@ -44,6 +45,23 @@ but_one place =
 -- of those that no flit has shown, those behind one that lacks such words
 abbrev pub unknown_behind : List Bool → List Bool → List Bool
 unknown_behind unknown lacking = left_of unknown (left_of unknown lacking)
+
+-- words that are known in the place of others, and which lack but for those
+abbrev pub known_at : Words → List ℕ → ℕ → ℕ
+known_at known words n = unwrap_or (known n) (slice_index_or words n 0)
+
+abbrev pub with_known : Words → List ℕ → List ℕ
+with_known known words =
+    known_at known words 0 ∷ known_at known words 1 ∷ known_at known words 2 ∷ known_at known words 3
+    ∷ known_at known words 4 ∷ known_at known words 5 ∷ known_at known words 6 ∷ known_at known words 7 ∷ []
+
+abbrev pub unknown_at : Words → List Bool → ℕ → Bool
+unknown_at known lacks n = lacking (word_at lacks n) (is_some (known n))
+
+abbrev pub but_known : Words → List Bool → List Bool
+but_known known lacks =
+    unknown_at known lacks 0 ∷ unknown_at known lacks 1 ∷ unknown_at known lacks 2 ∷ unknown_at known lacks 3
+    ∷ unknown_at known lacks 4 ∷ unknown_at known lacks 5 ∷ unknown_at known lacks 6 ∷ unknown_at known lacks 7 ∷ []
 
 -- words are those that are known, but for some
 abbrev pub agrees_word : Bool → ℕ → ℕ → Bool

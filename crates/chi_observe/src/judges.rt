@@ -5,14 +5,14 @@ ghost use Rattle.std.specs.Prelude.{◌≡◌, ◌<◌, IfErr, IfOk, OnErr, true
 ghost use Rattle.chi_observer.specs.Arriving.{holds_none};
 ghost use Rattle.chi_observer.specs.Begun.{begun};
 ghost use Rattle.chi_observer.specs.Lines.{watched};
-ghost use Rattle.chi_observer.specs.ListedLines.{listed_watched};
-ghost use Rattle.chi_observe.specs.Judges.{before_of, but_any, fault_of, holds, is_judge_fault, judged, line_judged, opened_from, opened_whole, told_in, verdict, verdict_of, wake, wanted_in, woken, worded};
+ghost use Rattle.chi_observer.specs.ListedLines.{listed_watched, words_of};
+ghost use Rattle.chi_observe.specs.Judges.{before_of, fault_of, holds, is_judge_fault, judged, keeps_store, line_judged, opened_from, opened_whole, told_in, told_words, verdict, verdict_of, wake, wanted_in, woken, worded};
 
 use crate::marks::teller_of;
 use chi_flit::{Agent, Data};
 use chi_observer::{
-    AGENTS, AgentSeen, Arrivals, Begun, Certainty, Due, Flit, Held, KnownWords, ListedObserver,
-    Observer, Reason, Stores, Told, Untaken, Wanted,
+    AGENTS, Act, AgentSeen, Arrivals, Begun, Certainty, Due, Flit, Held, KnownWords,
+    ListedObserver, Observer, Reason, Stores, Told, Untaken, Wanted,
 };
 use std::alloc::{AllocError, Allocator};
 
@@ -199,18 +199,6 @@ fn arrivals_copy(arrivals: &Arrivals) -> Arrivals
     }
 }
 
-/// The same, but where the words may be any and are told.
-fn but_any(wanted: Wanted) -> Wanted
-    ensures { result ≡ but_any wanted }
-{
-    match wanted {
-        Wanted::Known => Wanted::Known,
-        Wanted::Free => Wanted::Free,
-        Wanted::Nothing => Wanted::Nothing,
-        Wanted::Any => Wanted::Nothing,
-    }
-}
-
 /// That of a line which no flit has touched, from the trace's beginning.
 fn whole<A: Allocator>(stores: Stores) -> Judge<A>
     ensures { judged result ≡ opened_whole stores }
@@ -326,7 +314,7 @@ impl<A: Allocator> Judge<A> {
     {
         match self {
             Judge::Whole(observer) => observer.wanted(flit),
-            Judge::Listed(observer) => but_any(observer.seen.wanted(flit)),
+            Judge::Listed(observer) => observer.seen.wanted(flit),
             Judge::Begun(_) => Wanted::Nothing,
             Judge::Home(_) => Wanted::Nothing,
         }
@@ -340,7 +328,9 @@ impl<A: Allocator> Judge<A> {
             Judge::Whole(observer) => {
                 observer.home = Some(words);
             }
-            Judge::Listed(_) => {}
+            Judge::Listed(observer) => {
+                observer.seen.home = Some(words);
+            }
             Judge::Begun(_) => {}
             Judge::Home(_) => {}
         }
@@ -355,6 +345,30 @@ impl<A: Allocator> Judge<A> {
             Judge::Listed(observer) => &observer.seen,
             Judge::Begun(line) => &line.begun.observer,
             Judge::Home(arrivals) => &arrivals.seen,
+        }
+    }
+
+    /// The words that those of data of a copy have to be besides: where all stores are listed, those that loads and stores
+    /// told.
+    pub(crate) fn told_words(&self, flit: Flit) -> KnownWords
+        ensures { words_of result ≡ told_words (judged self.now) flit }
+    {
+        match (self, flit) {
+            (Judge::Listed(observer), Flit::Up(sent)) => match sent.act {
+                Act::NonCopyBackWrData => KnownWords::none(),
+                _ => observer.known_words(),
+            },
+            _ => KnownWords::none(),
+        }
+    }
+
+    /// Whether the flit is a store of which words are kept.
+    pub(crate) fn keeps_store(&self, flit: Flit) -> bool
+        ensures { result ≡ keeps_store (judged self.now) flit }
+    {
+        match (self, flit) {
+            (Judge::Listed(_), Flit::Up(sent)) => matches!(sent.act, Act::Store(_)),
+            _ => false,
         }
     }
 

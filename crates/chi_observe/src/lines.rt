@@ -3,6 +3,7 @@
 ghost use Rattle.std.specs.Prelude.{◌≡◌, IfOk, None, OnOk, nat_eq};
 ghost use Rattle.std.specs.Map.{lookup};
 ghost use Rattle.chi_observe.specs.declared.lines.LineStop.TheVariants as stops;
+ghost use Rattle.chi_observer.specs.ListedLines.{words_of};
 ghost use Rattle.chi_observe.specs.Judges.{before_of};
 ghost use Rattle.chi_observe.specs.Lines.{IsBegunTold, IsBetweenTold, IsEarlyTold, IsEndTold, IsFlitTold, IsHeldTold, IsHoldTold, IsLastTold, IsLineTold, IsShownTold, IsTold, early_of, held_next, home_of, is_apart, is_aside, is_given, is_known_lacking, is_put_aside, is_showing, is_wanted_free, is_wanted_known, lacking_shown, lacking_with, lacking_without, lacks_of, line_state, lines_in, marked_next, may_show, opened_line, presented, put_aside, shown_more, shown_words, shows_home, unknown_in, wanted_of, with_shown, word_in};
 
@@ -10,9 +11,13 @@ use crate::ids::{CacheLine, Later};
 use crate::judges::{Before, Judge};
 use crate::marks::{Marks, shows_some, teller_of};
 use crate::reasons::LineReason;
-use crate::words::{agrees, but_one, lacks_some, left_of, unknown_behind, words_with};
+use crate::words::{
+    agrees, but_known, but_one, lacks_some, left_of, unknown_behind, with_known, words_with,
+};
 use chi_flit::{Data, WordNo};
-use chi_observer::{Act, Aside, CacheFlit, Flit, HomeFlit, Reason, Untaken, Wanted, Word};
+use chi_observer::{
+    Act, Aside, CacheFlit, Flit, HomeFlit, KnownWords, Reason, Untaken, Wanted, Word,
+};
 use chi_trace::NodeId;
 use indexmap::IndexMap;
 use std::alloc::{AllocError, Allocator};
@@ -51,11 +56,19 @@ pub(crate) enum Lacking {
 impl Lacking {
     /// What lacks behind the first beat of data, which the home sends or doesn't, that lack such words, and of whose words
     /// this is wanted; `None` where the line isn't told of them yet.
-    fn with(self, wanted: Wanted, given: bool, lacks: &[bool; 8]) -> Option<Lacking>
-        ensures { result ≡ lacking_with self wanted given lacks.now }
+    fn with(
+        self,
+        wanted: Wanted,
+        given: bool,
+        lacks: &[bool; 8],
+        known: &KnownWords,
+    ) -> Option<Lacking>
+        ensures { result ≡ lacking_with self wanted given lacks.now (words_of known.now) }
     {
         match (self, wanted) {
-            (Lacking::Nothing, Wanted::Any) => Some(Lacking::Words(*lacks, 0, given)),
+            (Lacking::Nothing, Wanted::Any) => {
+                Some(Lacking::Words(but_known(lacks, known), 0, given))
+            }
             (Lacking::Words(unknown, others, had), Wanted::Known) => {
                 if !self.may_show(given, lacks) {
                     return None;
@@ -274,17 +287,19 @@ impl<A: Allocator> LineSeen<A> {
         }
     }
 
-    /// A flit with the home's words in place of those that it lacks, and of those that no flit has shown.
+    /// A flit with words that are known, or else the home's, in place of those that it lacks, and with the home's in place of
+    /// those that no flit has shown.
     pub(crate) fn presented(&self, flit: Flit, lacks: &[bool; 8]) -> Flit
         ensures { result ≡ presented (line_state self.now) flit lacks.now }
     {
-        match &self.judge.observer().home {
-            Some(home) => {
-                let filled = words_with(&words_of(flit), home, lacks);
-                with_words(flit, words_with(&filled, home, &self.lacking.unknown()))
-            }
-            None => flit,
-        }
+        let own = shown_by(flit);
+        let home = match &self.judge.observer().home {
+            Some(home) => *home,
+            None => own,
+        };
+        let known = with_known(&home, &self.judge.told_words(flit));
+        let filled = words_with(&own, &known, lacks);
+        with_words(flit, words_with(&filled, &home, &self.lacking.unknown()))
     }
 
     /// The home has the words that this flit was the first to show.
@@ -295,7 +310,7 @@ impl<A: Allocator> LineSeen<A> {
             return;
         };
         let there = left_of(&self.lacking.unknown(), lacks);
-        let words = words_with(home, &words_of(flit), &there);
+        let words = words_with(home, &shown_by(flit), &there);
         self.judge.show(words);
     }
 
@@ -330,7 +345,9 @@ impl<A: Allocator> LineSeen<A> {
     ) -> Result<(), LineStop>
         ensures { IsBegunTold (before_of before.now) (line_state self.old) (line_state self.new) number home flit lacks.now result }
     {
-        match self.lacking.with(self.wanted(flit), is_given(flit), lacks) {
+        let known = self.judge.told_words(flit);
+        let given = is_given(flit);
+        match self.lacking.with(self.wanted(flit), given, lacks, &known) {
             None => {
                 self.hold();
                 Ok(())
@@ -364,7 +381,7 @@ impl<A: Allocator> LineSeen<A> {
             self.set_aside();
             return Ok(());
         };
-        let words = words_of(flit);
+        let words = shown_by(flit);
         let unknown = self.lacking.unknown();
         if !self.aside && !agrees(&unknown, &self.judge.observer().home, &words) {
             return Err(LineStop::Refused(LineReason::Rule(Reason::OtherWords)));
@@ -437,7 +454,10 @@ impl<A: Allocator> LineSeen<A> {
             Some(flit) => match self.lacking {
                 Lacking::Nothing => true,
                 Lacking::Data => false,
-                Lacking::Words(_, _, _) => !shows_some(*flit) || is_wanted_free(self.wanted(*flit)),
+                Lacking::Words(_, _, _) => {
+                    (!shows_some(*flit) || is_wanted_free(self.wanted(*flit)))
+                        && !self.judge.keeps_store(*flit)
+                }
             },
         }
     }
@@ -488,13 +508,13 @@ impl<A: Allocator> LineSeen<A> {
         ensures { result ≡ early_of (line_state self.now) flit lacks.now }
     {
         match self.wanted(flit) {
-            Wanted::Free => Some((Later::Free, words_of(flit))),
+            Wanted::Free => Some((Later::Free, shown_by(flit))),
             Wanted::Known => {
                 if !self.lacking.is_known() {
                     return None;
                 }
                 let home = self.judge.observer().home?;
-                Some((Later::Held, words_with(&words_of(flit), &home, lacks)))
+                Some((Later::Held, words_with(&shown_by(flit), &home, lacks)))
             }
             Wanted::Any => None,
             Wanted::Nothing => None,
@@ -542,7 +562,7 @@ impl<A: Allocator> LineSeen<A> {
 }
 
 /// The words of a flit: a load's word in the place of each.
-fn words_of(flit: Flit) -> Data
+fn shown_by(flit: Flit) -> Data
     ensures { result ≡ shown_words flit }
 {
     match flit {

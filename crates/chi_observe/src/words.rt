@@ -1,9 +1,11 @@
 //! The words of a line, some of which lack.
 
 ghost use Rattle.std.specs.Prelude.{◌≡◌};
-ghost use Rattle.chi_observe.specs.Words.{agrees, agrees_word, but_one, lacking, lacks_some, left_of, unknown_behind, word_with, words_with};
+ghost use Rattle.chi_observe.specs.Words.{agrees, agrees_word, but_known, but_one, lacking, lacks_some, left_of, unknown_behind, with_known, word_with, words_with};
+ghost use Rattle.chi_observer.specs.ListedLines.{words_of};
 
 use chi_flit::Data;
+use chi_observer::KnownWords;
 
 /// A word of data behind a beat: the beat's, where it has it.
 fn word_with(old: u64, new: u64, there: bool) -> u64
@@ -78,6 +80,39 @@ pub(crate) fn but_one(place: u8) -> [bool; 8]
         place != 5,
         place != 6,
         place != 7,
+    ]
+}
+
+/// Words that are known in the place of others.
+pub(crate) fn with_known(words: &Data, known: &KnownWords) -> Data
+    ensures { result ≡ with_known (words_of known.now) words.now }
+{
+    [
+        word_with(words[0], known.words[0], known.known[0]),
+        word_with(words[1], known.words[1], known.known[1]),
+        word_with(words[2], known.words[2], known.known[2]),
+        word_with(words[3], known.words[3], known.known[3]),
+        word_with(words[4], known.words[4], known.known[4]),
+        word_with(words[5], known.words[5], known.known[5]),
+        word_with(words[6], known.words[6], known.known[6]),
+        word_with(words[7], known.words[7], known.known[7]),
+    ]
+}
+
+/// The words that lack, but for those that are known.
+#[tactic(auto, using(crate::proofs::WordLemmas::known_where))]
+pub(crate) fn but_known(lacks: &[bool; 8], known: &KnownWords) -> [bool; 8]
+    ensures { result ≡ but_known (words_of known.now) lacks.now }
+{
+    [
+        lacking(lacks[0], known.known[0]),
+        lacking(lacks[1], known.known[1]),
+        lacking(lacks[2], known.known[2]),
+        lacking(lacks[3], known.known[3]),
+        lacking(lacks[4], known.known[4]),
+        lacking(lacks[5], known.known[5]),
+        lacking(lacks[6], known.known[6]),
+        lacking(lacks[7], known.known[7]),
     ]
 }
 
