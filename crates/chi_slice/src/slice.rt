@@ -21,10 +21,10 @@ use crate::agent_line::AgentRow;
 use crate::loading::{are_parts_kept, places_in};
 use crate::places::RequestPlaces;
 use crate::records::{is_step_in_range, note};
-use crate::terms::{Done, Terms};
+use crate::terms::Terms;
 use chi_flit::{Action, Agent, Config, Effect, Line, NoMemory, Refusal, Slot, Step};
 use chi_journal::Journal;
-use chi_line::Conditions;
+use chi_line::{ActionOutcome, Conditions};
 use std::alloc::Allocator;
 use std::marker::Model;
 
@@ -277,8 +277,8 @@ impl<A: Allocator> Slice<A> {
         ensures computed { Computed self.old action result self.new }
         ensures err { OnErr result (self.new ≡ self.old) }
     {
-        let done = self.act_under(action, Terms::NONE)?;
-        Ok(done.effect)
+        let outcome = self.act_under(action, Terms::NONE)?;
+        Ok(outcome.effect)
     }
 
     /// Does one action on the terms of its requester, as `act` does it.
@@ -289,10 +289,11 @@ impl<A: Allocator> Slice<A> {
     /// Of the representation, for callers that compute with it: `computed`.
     /// Source: `docs/PROTOCOL.md`, "The actions" and "A requester and its calls".
     #[inline(always)]
-    pub fn act_under(&mut self, action: Action, terms: Terms) -> Result<Done, Refusal>
+    pub fn act_under(&mut self, action: Action, terms: Terms) -> Result<ActionOutcome, Refusal>
         ensures refused { refusal_of result ≡ refused_on_terms terms self.old action }
-        ensures protocol { IfOk result (λ done. IsDone self.old action done.effect self.new) }
-        ensures loads { IfOk result (λ done. HasLastValue self.old action done.effect) }
+        ensures protocol { IfOk result
+            (λ outcome. IsDone self.old action outcome.effect self.new) }
+        ensures loads { IfOk result (λ outcome. HasLastValue self.old action outcome.effect) }
         ensures computed { ComputedUnder terms self.old action result self.new }
         ensures err { OnErr result (self.new ≡ self.old) }
     {
@@ -336,13 +337,19 @@ impl<A: Allocator> Slice<A> {
     /// Of the representation, for callers that compute with it: `computed`.
     /// Source: `docs/PROTOCOL.md`, "The actions" and "A requester and its calls".
     #[inline(always)]
-    pub fn act_in(&mut self, at: AgentRow, step: Step, terms: Terms) -> Result<Done, Refusal>
+    pub fn act_in(
+        &mut self,
+        at: AgentRow,
+        step: Step,
+        terms: Terms,
+    ) -> Result<ActionOutcome, Refusal>
         requires row { IsRow self.old at }
         requires inside { is_in_range self.old (action_in at step) ≡ true }
         ensures refused { refusal_of result ≡ refused_on_terms terms self.old (action_in at step) }
         ensures protocol { IfOk result
-            (λ done. IsDone self.old (action_in at step) done.effect self.new) }
-        ensures loads { IfOk result (λ done. HasLastValue self.old (action_in at step) done.effect) }
+            (λ outcome. IsDone self.old (action_in at step) outcome.effect self.new) }
+        ensures loads { IfOk result
+            (λ outcome. HasLastValue self.old (action_in at step) outcome.effect) }
         ensures computed { ComputedUnder terms self.old (action_in at step) result self.new }
         ensures err { OnErr result (self.new ≡ self.old) }
     {
@@ -357,10 +364,7 @@ impl<A: Allocator> Slice<A> {
         self.places
             .follow(action.agent, action.line, outcome.slot, outcome.to);
         note(&mut self.journal, action, outcome.effect);
-        Ok(Done {
-            effect: outcome.effect,
-            slot: outcome.slot,
-        })
+        Ok(outcome)
     }
 
     /// Tries the actions in their order; a refused one changes nothing. Answers how many were done.

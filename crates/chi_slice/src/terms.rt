@@ -1,6 +1,4 @@
-//! What a requester adds to an action, and what it learns of it.
-
-use chi_flit::{Effect, Slot};
+//! What a requester adds to an action.
 
 /// What a requester adds to the conditions of its action.
 /// Source: `docs/PROTOCOL.md`, "A requester and its calls".
@@ -10,15 +8,6 @@ pub struct Terms {
     pub slot_taken: bool,
     /// For each credit type, by its number, whether there is a credit for a Resend.
     pub credits: [bool; 4],
-}
-
-/// What an action did.
-/// Source: `docs/PROTOCOL.md`, "The actions".
-#[derive(Clone, Copy, Debug, PartialEq, Eq)]
-pub struct Done {
-    pub effect: Effect,
-    /// The slot of the request that was moved, if one was.
-    pub slot: Option<Slot>,
 }
 
 impl Terms {

@@ -34,7 +34,7 @@ returns-in_err-outcome-clause-computed g c =
     search (rules, err_computed, by)
 
 end : (g : given.Over) (c : goal.After-note g)
-    → Ended c.args.self.now c.args.terms (action_in c.args.at c.args.step) c.in_ok-outcome.outcome.effect c.in_ok-outcome.outcome.slot (slice_with c.self.inside.config c.self.inside.index (slice_set c.self.inside.lines.items c.from.result c.act.new.self) c.note.new.journal) c.follow.new.self
+    → Ended c.args.self.now c.args.terms (action_in c.args.at c.args.step) c.in_ok-outcome.outcome (slice_with c.self.inside.config c.self.inside.index (slice_set c.self.inside.lines.items c.from.result c.act.new.self) c.note.new.journal) c.follow.new.self
 end g c =
     ended c.args.self.now c.args.terms (action_in c.args.at c.args.step) c.self.inside.places c.follow.new.self c.note.new.journal c.self.view_is c.self.invariant.1
     (ready c.args.self.now c.args.terms (action_in c.args.at c.args.step) c.self.invariant.0 c.self.view_is (not_out c.args.self.now (action_in c.args.at c.args.step) c.requires.inside) (c.from.ensures ∙ c.requires.row) c.conditions-conditions.ensures c.index_mut-line.ensures.value)
