@@ -10,8 +10,7 @@ use Rattle.chi_tracker.specs.Calls.{Owner, owed_one}
 use Rattle.chi_tracker.specs.Conduct.{ClaimActs, HasActed, OweActs}
 use Rattle.chi_node.specs.declared.answers.Arrived.{Arrived}
 use Rattle.chi_node.specs.declared.answers.Arrived.TheVariants.{Admitted, Retried}
-use Rattle.chi_node.specs.declared.steps.StepSubject.{StepSubject}
-use Rattle.chi_node.specs.AfterStep.{Finishes}
+use Rattle.chi_node.specs.AfterStep.{Finishes, StepPlace}
 use Rattle.chi_node.specs.Arrives.{Arrives, Retries}
 use Rattle.chi_node.specs.Calls.{IsSameRequester}
 use Rattle.chi_node.specs.Requester.{IsRunning, RequesterState}
@@ -22,7 +21,7 @@ arrival_running true s (Retried ty) r r' a = a.4.acts.running
 arrival_running false s (Admitted e) r r' a = a.4.running
 arrival_running false s (Retried ty) r r' a = absurd a
 
-pub step_running : (at : StepSubject) (step : Step) (effect : Effect) (released : Option Released) (r r' : RequesterState) → Finishes at step effect released r r' → IsRunning r → IsRunning r'
+pub step_running : (at : StepPlace) (step : Step) (effect : Effect) (released : Option Released) (r r' : RequesterState) → Finishes at step effect released r r' → IsRunning r → IsRunning r'
 step_running at step (Completed slot) None r r' f running = absurd f.0
 step_running at step (Completed slot) (Some released) r r' f running = f.1.acted.3.running
 step_running at step Nothing released r r' f running = subst IsRunning (sym f.1) running
@@ -35,7 +34,7 @@ arrival_same true s (Retried ty) r r' a = record { number = ap (λ (q : Requeste
 arrival_same false s (Admitted e) r r' a = record { number = ap (λ (q : RequesterState). q.number) a.3; table = ap (λ (q : RequesterState). q.table) a.3; shape = ap (λ (q : RequesterState). q.port.shape) a.3 }
 arrival_same false s (Retried ty) r r' a = absurd a
 
-pub step_same : (at : StepSubject) (step : Step) (effect : Effect) (released : Option Released) (r r' : RequesterState) → Finishes at step effect released r r' → IsSameRequester r r'
+pub step_same : (at : StepPlace) (step : Step) (effect : Effect) (released : Option Released) (r r' : RequesterState) → Finishes at step effect released r r' → IsSameRequester r r'
 step_same at step (Completed slot) None r r' f = absurd f.0
 step_same at step (Completed slot) (Some released) r r' f = record { number = ap (λ (q : RequesterState). q.number) f.1.after; table = ap (λ (q : RequesterState). q.table) f.1.after; shape = f.1.credits.1 }
 step_same at step Nothing released r r' f = record { number = ap (λ (q : RequesterState). q.number) f.1; table = ap (λ (q : RequesterState). q.table) f.1; shape = ap (λ (q : RequesterState). q.port.shape) f.1 }

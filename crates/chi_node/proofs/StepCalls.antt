@@ -34,8 +34,7 @@ use Rattle.chi_node.specs.Agree.{Agree, MatchesRecord, KeepsAgreement}
 use Rattle.chi_node.specs.Calls.{BothKept, CountsStep, is_own_step, place_at}
 use Rattle.chi_slice.specs.declared.terms.Terms.{Terms}
 use Rattle.chi_node.specs.Outstanding.{has_spare, is_taken, outstanding_of, terms_of}
-use Rattle.chi_node.specs.declared.steps.StepSubject.{StepSubject}
-use Rattle.chi_node.specs.AfterStep.{CanFinish, CanResend, Finishes}
+use Rattle.chi_node.specs.AfterStep.{CanFinish, CanResend, Finishes, StepPlace, place_in}
 use Rattle.chi_node.proofs.Matches.{index_low, itself, same_number}
 use Rattle.chi_node.proofs.Agreement.{action_of, counts_step, keeps}
 use Rattle.chi_node.proofs.Records.{restated, tells_of}
@@ -165,27 +164,23 @@ fine s agent l other r can =
     fine_step s agent l other r ready (tt, no_slot_moves s agent l other r ready refl)
 
 -- a step can be followed, and keeps agreement and its history
-pub can_finish : (s : SliceState) (r : RequesterState) (action : Action) (at : StepSubject) (effect : Effect) → CanStep s r action → effect ≡ effect_of (line s action.line.0) action → at ≡ place_at s action → CanFinish at action.step effect r
-can_finish s r action at effect can is place = subst₂ (λ (p : StepSubject) (e : Effect). CanFinish p action.step e r) (sym place) (sym is) (fine s action.agent action.line action.step r can).can
+pub can_finish : (s : SliceState) (r : RequesterState) (action : Action) (at : StepPlace) (effect : Effect) → CanStep s r action → effect ≡ effect_of (line s action.line.0) action → at ≡ place_at s action → CanFinish at action.step effect r
+can_finish s r action at effect can is place = subst₂ (λ (p : StepPlace) (e : Effect). CanFinish p action.step e r) (sym place) (sym is) (fine s action.agent action.line action.step r can).can
 
 pub record StepKept (s s' : SliceState) (action : Action) (r r' : RequesterState) : Type 0 where
   pub agreement : KeepsAgreement s s' r r'
   pub history : CountsStep s s' action r r'
 
-pub step_kept : (s s' : SliceState) (r r' : RequesterState) (action : Action) (at : StepSubject) (effect : Effect) (released : Option Released) → CanStep s r action → effect ≡ effect_of (line s action.line.0) action → s' ≡ slice_after s action → at ≡ place_at s action
+pub step_kept : (s s' : SliceState) (r r' : RequesterState) (action : Action) (at : StepPlace) (effect : Effect) (released : Option Released) → CanStep s r action → effect ≡ effect_of (line s action.line.0) action → s' ≡ slice_after s action → at ≡ place_at s action
     → Finishes at action.step effect released r r' → StepKept s s' action r r'
 step_kept s s' r r' action at effect released can is after place finishes =
     let ready = ready_of s action.agent action.line action.step r can in
     let legal = (kept_acted s action can.both.slice (allowed s action (allowed_alone (terms_of (outstanding_of r) action.step) s action can.may))).legal in
-    let follows = (fine s action.agent action.line action.step r can).after released r' (subst₂ (λ (p : StepSubject) (e : Effect). Finishes p action.step e released r r') place is finishes) in
+    let follows = (fine s action.agent action.line action.step r can).after released r' (subst₂ (λ (p : StepPlace) (e : Effect). Finishes p action.step e released r r') place is finishes) in
     subst (λ (z : SliceState). StepKept s z action r r') (sym after) (record {
       agreement = keeps s action.agent action.line action.step r r' can.both.slice ready.low ready.here ready.moves can.own follows;
       history = counts_step s action.agent action.line action.step r r' can.both.slice ready.low ready.here can.own follows can.agrees legal;
     })
 
-pub place_is : (s s' : SliceState) (action : Action) (l : Line) (index : ℕ) (profile : Profile) (slot : Option Slot) → s' ≡ slice_after s action → l ≡ action.line → index ≡ s'.index → profile ≡ s'.config.profile → slot ≡ moved_by s action
-    → record { line = l; index = index; profile = profile; slot = slot } ≡ place_at s action
-place_is s s' action l index profile slot after at here of_slice moved =
-    let i : index ≡ s.index = here ∙ ap (λ (z : SliceState). z.index) after in
-    let p : profile ≡ s.config.profile = of_slice ∙ ap (λ (z : SliceState). z.config.profile) after in
-    λ j. record { line = at j; index = i j; profile = p j; slot = moved j }
+pub place_is : (s s' : SliceState) (action : Action) (l : Line) (slot : Option Slot) → s' ≡ slice_after s action → l ≡ action.line → slot ≡ moved_by s action → place_in s' l slot ≡ place_at s action
+place_is s s' action l slot after at moved = λ i. place_in (after i) (at i) (moved i)

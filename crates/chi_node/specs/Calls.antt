@@ -17,11 +17,10 @@ use Rattle.chi_slice.specs.Index.{SlotsInRange}
 use Rattle.chi_node.specs.declared.answers.Arrived.{Arrived}
 use Rattle.chi_node.specs.declared.answers.Arrived.TheVariants.{Admitted, Retried}
 use Rattle.chi_node.specs.declared.answers.Stepped.{Stepped}
-use Rattle.chi_node.specs.declared.steps.StepSubject.{StepSubject}
 use Rattle.chi_node.specs.Requester.{IsRunning, RequesterKept, RequesterState}
 use Rattle.chi_node.specs.Agree.{KeepsAgreement}
 use Rattle.chi_node.specs.Arrives.{Arrives}
-use Rattle.chi_node.specs.AfterStep.{Finishes}
+use Rattle.chi_node.specs.AfterStep.{Finishes, StepPlace, place_in}
 
 -- why a call is refused: for this reason, or else by 11 exactly where the requester doesn't agree
 abbrev pub OrNotOpen : Option Refusal → Type 0 → Option Refusal → Type 0
@@ -42,8 +41,8 @@ ArrivesAt None arrived old new = ⊥
 ArrivesAt (Some request) arrived old new = Arrives request.allow_retry request.slot.0 arrived old new
 
 -- where an action is done
-abbrev pub place_at : SliceState → Action → StepSubject
-place_at s action = record { line = action.line; index = s.index; profile = s.config.profile; slot = moved_by s action }
+abbrev pub place_at : SliceState → Action → StepPlace
+place_at s action = place_in s action.line (moved_by s action)
 
 -- what a step that is done leaves of the slice, by its row of the protocol, and of its requester, and what is answered
 pub record StepsTo (s s' : SliceState) (action : Action) (r r' : RequesterState) (stepped : Stepped) : Type 0 where

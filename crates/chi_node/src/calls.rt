@@ -11,7 +11,6 @@ ghost use Rattle.chi_node.specs.Parts.{HasTypes};
 use crate::agree::agrees;
 use crate::answers::{Arrived, Stepped};
 use crate::requester::Requester;
-use crate::steps::StepSubject;
 use chi_flit::{Action, Line, Refusal, Request, Step};
 use chi_slice::{AgentRow, Slice, Terms, is_step_in_range};
 use chi_tracker::Tracker;
@@ -164,16 +163,10 @@ pub fn step_agreed<A: Allocator, B: Allocator>(
     }
     let terms = requester.terms(step);
     keeps(slice, requester);
-    let done = slice.act_in(at, step, terms)?;
-    let place = StepSubject {
-        line: at.line(),
-        index: slice.index(),
-        profile: slice.config().profile(),
-        slot: done.slot,
-    };
-    let released = requester.finish(tracker, place, step, done.effect);
+    let outcome = slice.act_in(at, step, terms)?;
+    let released = requester.finish(slice, tracker, at.line(), step, outcome);
     Ok(Stepped {
-        effect: done.effect,
+        effect: outcome.effect,
         released,
     })
 }
