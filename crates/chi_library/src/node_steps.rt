@@ -310,9 +310,9 @@ fn tell_before(
     ensures kept { OnOk result (SliceKept (slice_of node.now.home line.0)) }
 {
     let slice = node.slice_of(line);
-    let at = slice.row_for(agent, line)?;
-    tell_taken(taken, agent, slice.flits_in(at), step);
-    Ok(slice.home_in(at).serving())
+    let row = slice.row_for(agent, line)?;
+    tell_taken(taken, agent, slice.flits_in(row, agent), step);
+    Ok(slice.home_in(row).serving())
 }
 
 /// Lists the flits that a step sent, by what stands after it, and answers how many they are.
@@ -329,7 +329,7 @@ fn list_after(
 {
     let slice = node.slice_of(action.line);
     match slice.row_for(action.agent, action.line) {
-        Ok(at) => list_sent(slice, at, action, before, taken, sent),
+        Ok(row) => list_sent(slice, row, action, before, taken, sent),
         Err(_) => unreachable!(),
     }
 }

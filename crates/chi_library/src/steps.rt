@@ -10,7 +10,7 @@ ghost use Rattle.chi_library.specs.Listed.{IsListed};
 ghost use Rattle.chi_library.specs.Numbers.{number_if};
 ghost use Rattle.chi_library.specs.SliceCalls.{act_after, act_told, decoded_refusal, sent_shown, taken_shown};
 ghost use Rattle.chi_library.specs.Standing.{line_standing};
-ghost use Rattle.chi_slice.specs.Slice.{CanAct, IsRow, action_in, action_refusal, is_in_range, line as line_of_slice, slice_after, slice_after_try};
+ghost use Rattle.chi_slice.specs.Slice.{IsRowOf, action_refusal, is_in_range, line as line_of_slice, row_of_line, slice_after, slice_after_try};
 
 use crate::actions::{ChiAction, ChiEffect, action_at, tell_effect};
 use crate::answers::{CLOSED, DONE, OUT_OF_RANGE};
@@ -21,7 +21,7 @@ use crate::sent::{
 };
 use crate::slice_handle::ChiSlice;
 use chi_flit::{Action, Channel, Effect, Refusal, Step};
-use chi_slice::{AgentRow, Serving, Slice, Terms};
+use chi_slice::{Serving, Slice, Terms};
 use std::alloc::Global;
 
 /// Does one action as `chi_slice_act` does it, and tells the flits that it sent, by agent, and the one that it
@@ -145,29 +145,34 @@ fn act_telling(
     ensures ungiven { OnErr result (effect.new ≡ effect.old) }
     ensures err { OnErr result (slice.new ≡ slice.old) }
 {
-    let at = slice.row_for(action.agent, action.line)?;
+    let row = slice.row_for(action.agent, action.line)?;
     if !is_in_range(action.step) {
         return Err(Refusal::OutOfRange);
     }
-    tell_taken(taken, action.agent, slice.flits_in(at), action.step);
-    let before = slice.home_in(at).serving();
-    let given = act_in_row(slice, at, action.step)?;
+    tell_taken(
+        taken,
+        action.agent,
+        slice.flits_in(row, action.agent),
+        action.step,
+    );
+    let before = slice.home_in(row).serving();
+    let given = act_in_row(slice, row, action)?;
     tell_effect(effect, given);
-    Ok(list_sent(slice, at, action, before, &taken.flit, sent))
+    Ok(list_sent(slice, row, action, before, &taken.flit, sent))
 }
 
-/// Does a step of the agent in a row. (A function of its own, so that it is compiled as `Slice::act` is.)
-fn act_in_row(slice: &mut Slice<Global>, at: AgentRow, step: Step) -> Result<Effect, Refusal>
-    requires row { IsRow slice.old at }
-    requires inside { is_in_range slice.old (action_in at step) ≡ true }
-    ensures refusal { refusal_of result ≡ action_refusal slice.old (action_in at step) }
+/// Does an action in the row of its line. (A function of its own, so that it is compiled as `Slice::act` is.)
+fn act_in_row(slice: &mut Slice<Global>, row: u8, action: Action) -> Result<Effect, Refusal>
+    requires row { row ≡ row_of_line slice.old action.line.0 }
+    requires inside { is_in_range slice.old action ≡ true }
+    ensures refusal { refusal_of result ≡ action_refusal slice.old action }
     ensures effect { IfOk result (λ effect. effect
-        ≡ effect_of (line_of_slice slice.old at.line.0) (action_in at step)) }
-    ensures after { OnOk result (slice.new ≡ slice_after slice.old (action_in at step)) }
+        ≡ effect_of (line_of_slice slice.old action.line.0) action) }
+    ensures after { OnOk result (slice.new ≡ slice_after slice.old action) }
     ensures err { OnErr result (slice.new ≡ slice.old) }
 {
-    let done = slice.act_in(at, step, Terms::NONE)?;
-    Ok(done.effect)
+    let outcome = slice.act_in(row, action, Terms::NONE)?;
+    Ok(outcome.effect)
 }
 
 /// Whether the numbers of a step are in their ranges.
@@ -185,30 +190,27 @@ fn is_in_range(step: Step) -> bool
 #[inline(always)]
 pub(crate) fn list_sent(
     slice: &Slice<Global>,
-    at: AgentRow,
+    row: u8,
     action: Action,
     before: Serving,
     taken: &ChiFlit,
     sent: &mut [ChiSent; 8],
 ) -> u8
-    requires row { IsRow slice.now at }
-    requires inside { CanAct slice.now at }
-    requires agent { at.agent ≡ action.agent }
-    requires line { at.line ≡ action.line }
+    requires { IsRowOf slice.now action.agent.0 action.line.0 row }
     ensures { IsListed (map sent_told (line_standing (line_of_slice slice.now action.line.0)
         action.agent before taken.now action.step)) sent.old sent.new result }
 {
     let agent = action.agent;
     match action.step {
         Step::Issue(kind, slot) => list_issued(agent, kind, slot, sent),
-        Step::Retry => list_cell(agent, slice.flits_in(at), Channel::RspDown, sent),
-        Step::Resend => list_cell(agent, slice.flits_in(at), Channel::Req, sent),
-        Step::Start => list_started(agent, slice.home_in(at), slice.flits_in(at), sent),
-        Step::RecvSnp => list_answer(agent, slice.flits_in(at), sent),
-        Step::RecvSnpResp => list_answered(before, taken, slice.home_in(at), sent),
+        Step::Retry => list_cell(agent, slice.flits_in(row, agent), Channel::RspDown, sent),
+        Step::Resend => list_cell(agent, slice.flits_in(row, agent), Channel::Req, sent),
+        Step::Start => list_started(agent, slice.home_in(row), slice.flits_in(row, agent), sent),
+        Step::RecvSnp => list_answer(agent, slice.flits_in(row, agent), sent),
+        Step::RecvSnpResp => list_answered(before, taken, slice.home_in(row), sent),
         Step::RecvData => list_ack(agent, sent),
         Step::RecvComp => list_ack_of(agent, taken.message, sent),
-        Step::RecvDbid => list_cell(agent, slice.flits_in(at), Channel::DatUp, sent),
+        Step::RecvDbid => list_cell(agent, slice.flits_in(row, agent), Channel::DatUp, sent),
         _ => 0,
     }
 }

@@ -24,8 +24,8 @@ use Rattle.chi_tracker.specs.Views.{PortView}
 use Rattle.chi_slice.specs.Words.{cells_of, effect_of, has_type, is_of_type, is_step_in_range, no_flit_unless, pending_kind_of, requested_kind_of, requested_slot, retry_refusal, Position}
 use Rattle.chi_slice.specs.Positions as places
 use Rattle.chi_slice.proofs.Passed.{flit_at}
-use Rattle.chi_slice.specs.declared.agent_line.AgentRow.{AgentRow}
-use Rattle.chi_slice.specs.Slice.{SliceState, action_in, slice_after, is_in_range, is_line_in_range, line, action_refusal}
+use Rattle.chi_slice.specs.Slice.{SliceState, slice_after, is_in_range, is_line_in_range, line, action_refusal}
+use Rattle.chi_slice.proofs.AgentRows.{with_step}
 use Rattle.chi_slice.proofs.Rows.{both}
 use Rattle.chi_credit.specs.declared.slot.SlotState.TheVariants as states
 use Rattle.chi_credit.specs.Account.{slots_with_state, slot_record_at, type_at}
@@ -52,22 +52,17 @@ abbrev agent_of : RequesterState → Agent
 agent_of r = record { 0 = r.number }
 
 -- the slice refuses neither an Admit nor, of a first attempt, a Retry
-with_step : (a b : Bool) → (a && b) ≡ true → (a && (b && true)) ≡ true
-with_step true true h = refl
-with_step true false h = h
-with_step false b h = h
-
 not_refused : (b : Bool) (by : Option Refusal) → b ≡ true → by ≡ None → (if b then by else Some OutOfRange) ≡ None
 not_refused b by inside none = ap (λ (c : Bool). if c then by else Some OutOfRange) inside ∙ none
 
 admit_allowed : (s : SliceState) (r : RequesterState) (l : Line) (request : Request) → CanArriveOn s r l request → action_refusal s (action_of (agent_of r) l steps.Admit) ≡ None
 admit_allowed s r l request can =
-    not_refused (is_in_range s (action_of (agent_of r) l steps.Admit)) _ (with_step (nat_lt r.number s.config.agents) (is_line_in_range s l.0) can.inside)
+    not_refused (is_in_range s (action_of (agent_of r) l steps.Admit)) _ (with_step (nat_lt r.number s.config.agents) (is_line_in_range s l.0) true can.inside refl)
     (ap (λ (o : Option Request). no_flit_unless (is_some o)) can.flit)
 
 retry_allowed : (s : SliceState) (r : RequesterState) (l : Line) (request : Request) → CanArriveOn s r l request → request.allow_retry ≡ true → action_refusal s (action_of (agent_of r) l steps.Retry) ≡ None
 retry_allowed s r l request can first =
-    not_refused (is_in_range s (action_of (agent_of r) l steps.Retry)) _ (with_step (nat_lt r.number s.config.agents) (is_line_in_range s l.0) can.inside)
+    not_refused (is_in_range s (action_of (agent_of r) l steps.Retry)) _ (with_step (nat_lt r.number s.config.agents) (is_line_in_range s l.0) true can.inside refl)
     (ap retry_refusal can.flit ∙ ap (λ (b : Bool). if b then None else Some refusals.MustAccept) first)
 
 -- the slot of the request that arrives
@@ -157,11 +152,11 @@ keeps_arrival s s' r r' l request arrived can agrees a after =
     subst (λ (z : SliceState). KeepsAgreement s z r r') (sym after) (keeps s (agent_of r) l (arrival_step arrived) r r' can.kept ready.low ready.here ready.moves refl k.follows)
 
 -- what the slice did, in the row of its requester, is what the arrival came to, and it has no effect
-no_effect : (s : SliceState) (at : AgentRow) (arrived : Arrived) → effect_of (line s at.line.0) (action_in at (arrival_step arrived)) ≡ Nothing
-no_effect s at (Admitted entry) = refl
-no_effect s at (Retried ty) = refl
+no_effect : (s : SliceState) (agent : Agent) (l : Line) (arrived : Arrived) → effect_of (line s l.0) (action_of agent l (arrival_step arrived)) ≡ Nothing
+no_effect s agent l (Admitted entry) = refl
+no_effect s agent l (Retried ty) = refl
 
-pub arrives_as : (P : Action → Effect → Type 0) (s : SliceState) (at : AgentRow) (n : ℕ) (arrived : Arrived) (step : Step) (effect : Effect) → at.agent.0 ≡ n → step ≡ arrival_step arrived → effect ≡ effect_of (line s at.line.0) (action_in at step)
-    → P (action_in at step) effect → P (arrival_action n at.line arrived) Nothing
-arrives_as P s at n arrived step effect own is told =
-    subst₂ P (λ i. record { agent = record { 0 = own i }; line = at.line; step = is i }) (told ∙ (ap (λ (z : Step). effect_of (line s at.line.0) (action_in at z)) is ∙ no_effect s at arrived))
+pub arrives_as : (P : Action → Effect → Type 0) (s : SliceState) (agent : Agent) (l : Line) (n : ℕ) (arrived : Arrived) (step : Step) (effect : Effect) → agent.0 ≡ n → step ≡ arrival_step arrived → effect ≡ effect_of (line s l.0) (action_of agent l step)
+    → P (action_of agent l step) effect → P (arrival_action n l arrived) Nothing
+arrives_as P s agent l n arrived step effect own is told =
+    subst₂ P (λ i. record { agent = record { 0 = own i }; line = l; step = is i }) (told ∙ (ap (λ (z : Step). effect_of (line s l.0) (action_of agent l z)) is ∙ no_effect s agent l arrived))

@@ -17,13 +17,12 @@ use Rattle.chi_flit.specs.declared.refusal.Refusal.{Refusal}
 use Rattle.chi_slice.specs.Words.{cells_of, Sizes}
 use Rattle.chi_flit.specs.declared.action.Effect.TheVariants.{Nothing}
 use Rattle.chi_slice.specs.Protocol.{SliceStep}
-use Rattle.chi_slice.specs.Slice.{SliceState, opening_slice}
-use Rattle.chi_slice.specs.declared.agent_line.AgentRow.{AgentRow}
+use Rattle.chi_slice.specs.Slice.{IsRowOf, SliceState, opening_slice}
 use Rattle.chi_node.specs.declared.answers.Arrived.{Arrived}
 use Rattle.chi_node.specs.declared.answers.Stepped.{Stepped}
 use Rattle.chi_node.specs.Agree.{Agree, KeepsAgreement}
 use Rattle.chi_node.specs.Outstanding.{arrival_refusal, outstanding_of, step_refusal}
-use Rattle.chi_node.specs.Calls.{arrival_action, place_at, ArrivesAt, ArrivesOn, IsRowOf, IsSameRequester, IsSameSlice, StepsTo}
+use Rattle.chi_node.specs.Calls.{arrival_action, place_at, ArrivesAt, ArrivesOn, IsSameRequester, IsSameSlice, StepsTo}
 use Rattle.chi_node.specs.AfterStep.{Finishes}
 use Rattle.chi_node.specs.Parts.{HasTypes}
 use Rattle.chi_node.specs.Requester.{RequesterState, no_requester, IsRunning}
@@ -111,18 +110,17 @@ left_there : (y : SystemState) (n : ℕ) (r : RequesterState) → IsSystem y →
 left_there y n r k near = sym (get_or-set_at y.requesters n n r no_requester refl (has_requester y n k near))
 
 -- a row that was asked for is the requester's
-pub row_found : (tracker : TrackerState) (y y' : SystemState) (n l : ℕ) (s s' : SliceState) (r r' : RequesterState) (at : AgentRow) → IsSystemOf tracker y → Called y y' n l s s' r r' → IsRowOf (slice_of y.home l) n at → IsRowOf s r.number at
-row_found tracker y y' n l s s' r r' at own call row =
-    subst₂ (λ (x : SliceState) (m : ℕ). IsRowOf x m at) call.slice (can_call tracker y y' n l s s' r r' own call).number row
+pub row_found : (tracker : TrackerState) (y y' : SystemState) (n l : ℕ) (s s' : SliceState) (r r' : RequesterState) (row : ℕ) → IsSystemOf tracker y → Called y y' n l s s' r r' → IsRowOf (slice_of y.home l) n l row → IsRowOf s r.number l row
+row_found tracker y y' n l s s' r r' row own call at =
+    subst₂ (λ (x : SliceState) (m : ℕ). IsRowOf x m l row) call.slice (can_call tracker y y' n l s s' r r' own call).number at
 
 -- the slice that is left
 slice_there : (y : SystemState) (l : ℕ) (s : SliceState) → IsSystem y → s ≡ slice_of (with_slice y.home l s) l
 slice_there y l s k = sym (get_or-set_at y.home.slices (index_of y.home l) (index_of y.home l) s (opening_slice y.home.config 0) refl (is_low y.home l k.home))
 
-pub arrival_answered : (y y' : SystemState) (agent : Agent) (l at : Line) (s s' : SliceState) (r r' : RequesterState) (result : Result Arrived Refusal) → IsSystem y → Called y y' agent.0 l.0 s s' r r' → at ≡ l
-    → Said result (λ x q. arrival_refusal x q.number at.0) (λ x q arrived. ArrivesOn x s' at q r' arrived) s' r' s r → Answered result (arrive_refusal y agent.0 l.0) (λ z arrived. ArrivesIn y z agent l arrived) y y'
-arrival_answered y y' agent l at s s' r r' result k call is there_said =
-    let said = subst (λ (z : Line). Said result (λ x q. arrival_refusal x q.number z.0) (λ x q arrived. ArrivesOn x s' z q r' arrived) s' r' s r) is there_said in
+pub arrival_answered : (y y' : SystemState) (agent : Agent) (l : Line) (s s' : SliceState) (r r' : RequesterState) (result : Result Arrived Refusal) → IsSystem y → Called y y' agent.0 l.0 s s' r r'
+    → Said result (λ x q. arrival_refusal x q.number l.0) (λ x q arrived. ArrivesOn x s' l q r' arrived) s' r' s r → Answered result (arrive_refusal y agent.0 l.0) (λ z arrived. ArrivesIn y z agent l arrived) y y'
+arrival_answered y y' agent l s s' r r' result k call said =
     let n = agent.0 in
     let there = left_there y n r' k call.near in
     answered result y y' n l.0 s s' r r' (λ x q. arrival_refusal x q.number l.0) (arrive_refusal y n l.0) (λ x q arrived. ArrivesOn x s' l q r' arrived) (λ z arrived. ArrivesIn y z agent l arrived) call said
@@ -133,10 +131,9 @@ arrival_answered y y' agent l at s s' r r' result k call is there_said =
       others = ap (λ (q : RequesterState). set y.requesters n q) there;
     })
 
-pub step_answered : (y y' : SystemState) (action own : Action) (s s' : SliceState) (r r' : RequesterState) (result : Result Stepped Refusal) → IsSystem y → Called y y' action.agent.0 action.line.0 s s' r r' → own ≡ action
-    → Said result (λ x q. step_refusal x (outstanding_of q) own) (λ x q stepped. StepsTo x s' own q r' stepped) s' r' s r → Answered result (system_step_refusal y action) (λ z stepped. StepsIn y z action stepped) y y'
-step_answered y y' action own s s' r r' result k call is own_said =
-    let said = subst (λ (z : Action). Said result (λ x q. step_refusal x (outstanding_of q) z) (λ x q stepped. StepsTo x s' z q r' stepped) s' r' s r) is own_said in
+pub step_answered : (y y' : SystemState) (action : Action) (s s' : SliceState) (r r' : RequesterState) (result : Result Stepped Refusal) → IsSystem y → Called y y' action.agent.0 action.line.0 s s' r r'
+    → Said result (λ x q. step_refusal x (outstanding_of q) action) (λ x q stepped. StepsTo x s' action q r' stepped) s' r' s r → Answered result (system_step_refusal y action) (λ z stepped. StepsIn y z action stepped) y y'
+step_answered y y' action s s' r r' result k call said =
     let n = action.agent.0 in
     let l = action.line.0 in
     let there = left_there y n r' k call.near in

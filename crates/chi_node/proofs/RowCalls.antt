@@ -2,46 +2,40 @@
 use Rattle.std.proofs.Common.{◌≡◌, ◌∙◌, ℕ, ◌&&◌, Bool, true, false, nat_lt, Some, None, is_some, refl, sym, ap, subst, if◌then◌else◌}
 use Rattle.chi_flit.specs.declared.action.Action.{Action}
 use Rattle.chi_flit.specs.declared.action.Step.TheVariants as steps
+use Rattle.chi_flit.specs.declared.message.Request.{Request}
+use Rattle.chi_flit.specs.declared.numbers.Line.{Line}
 use Rattle.chi_flit.specs.declared.refusal.Refusal.{Refusal}
 use Rattle.chi_flit.specs.declared.refusal.Refusal.TheVariants.{OutOfRange}
-use Rattle.chi_slice.specs.declared.agent_line.AgentRow.{AgentRow}
 use Rattle.chi_slice.specs.declared.terms.Terms.{Terms}
-use Rattle.chi_slice.specs.Words.{cells_of, is_step_in_range, Cells, line_refusal, no_flit_unless}
-use Rattle.chi_slice.specs.Slice.{SliceState, are_in_range, conditions_under, flits_refusal, is_line_in_range, line, no_terms, refused_under}
+use Rattle.chi_slice.specs.Words.{cells_of, is_step_in_range, line_refusal, no_flit_unless}
+use Rattle.chi_slice.specs.Slice.{IsRowOf, SliceState, are_in_range, conditions_under, flits_refusal, is_line_in_range, line, line_in_row, no_terms, refused_under}
+use Rattle.chi_slice.proofs.AgentRows.{with_step}
 use Rattle.chi_slice.proofs.Refused.{on_terms_is, refused_is}
-use Rattle.chi_node.specs.Calls.{IsRowOf}
+use Rattle.chi_node.specs.Calls.{BothKept, CanArriveOn}
+use Rattle.chi_node.specs.Requester.{RequesterState}
 use Rattle.chi_node.specs.Outstanding.{Outstanding, arrival_refusal, step_refusal, terms_of}
 
 -- the Admit that an arrival is refused as
 abbrev pub admission : ℕ → ℕ → Action
 admission n l = record { agent = record { 0 = n }; line = record { 0 = l }; step = steps.Admit }
 
--- the line of a row is there, and what is refused there is the want of a flit
-without_step : (a b : Bool) → (a && (b && true)) ≡ true → (a && b) ≡ true
-without_step true true h = refl
-without_step true false h = h
-without_step false b h = h
-
-with_step : (a b : Bool) → (a && b) ≡ true → (a && (b && true)) ≡ true
-with_step true true h = refl
-with_step true false h = h
-with_step false b h = h
-
-pub row_inside : (s : SliceState) (n : ℕ) (at : AgentRow) → IsRowOf s n at → are_in_range s n at.line.0 ≡ true
-row_inside s n at row =
-    subst (λ (m : ℕ). are_in_range s m at.line.0 ≡ true) row.agent (without_step (nat_lt at.agent.0 s.config.agents) (is_line_in_range s at.line.0) (row.inside steps.Drop refl))
-
+-- what is refused in a row is the want of a flit
 pub flit_wanted : (s : SliceState) (n l : ℕ) → are_in_range s n l ≡ true → arrival_refusal s n l ≡ no_flit_unless (is_some (cells_of (line s l) n).req)
 flit_wanted s n l inside =
     sym (refused_is s (admission n l))
-    ∙ ap (λ (b : Bool). if b then no_flit_unless (is_some (cells_of (line s l) n).req) else Some OutOfRange) (with_step (nat_lt n s.config.agents) (is_line_in_range s l) inside)
+    ∙ ap (λ (b : Bool). if b then no_flit_unless (is_some (cells_of (line s l) n).req) else Some OutOfRange) (with_step (nat_lt n s.config.agents) (is_line_in_range s l) true inside refl)
 
-pub refused_there : (s : SliceState) (n : ℕ) (at : AgentRow) → IsRowOf s n at → arrival_refusal s n at.line.0 ≡ no_flit_unless (is_some (cells_of (line s at.line.0) n).req)
-refused_there s n at row = flit_wanted s n at.line.0 (row_inside s n at row)
+pub refused_there : (s : SliceState) (n l row : ℕ) → IsRowOf s n l row → arrival_refusal s n l ≡ no_flit_unless (is_some (cells_of (line_in_row s row) n).req)
+refused_there s n l row at = flit_wanted s n l at.inside ∙ ap (λ (r : ℕ). no_flit_unless (is_some (cells_of (line_in_row s r) n).req)) (sym at.is)
 
--- and its flits are the requester's
-pub flits_there : (s : SliceState) (n : ℕ) (at : AgentRow) (flits : Cells) → IsRowOf s n at → flits ≡ cells_of (line s at.line.0) at.agent.0 → flits ≡ cells_of (line s at.line.0) n
-flits_there s n at flits row is = subst (λ (m : ℕ). flits ≡ cells_of (line s at.line.0) m) row.agent is
+pub arrival_there : (s : SliceState) (r : RequesterState) (l : Line) (row : ℕ) (request : Request) → BothKept s r → IsRowOf s r.number l.0 row → (cells_of (line_in_row s row) r.number).req ≡ Some request → CanArriveOn s r l request
+arrival_there s r l row request kept at flit = record {
+  kept = kept.slice;
+  numbers = kept.slots;
+  inside = at.inside;
+  flit = subst (λ (n : ℕ). (cells_of (line_in_row s n) r.number).req ≡ Some request) at.is flit;
+  requester = kept.requester;
+}
 
 -- an action whose agent or line isn't there
 outside : (terms : Terms) (s : SliceState) (action : Action) (refusal : Refusal) → Some refusal ≡ flits_refusal s action.agent.0 action.line.0 → refused_under terms s action ≡ Some refusal

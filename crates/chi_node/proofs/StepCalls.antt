@@ -182,5 +182,5 @@ step_kept s s' r r' action at effect released can is after place finishes =
       history = counts_step s action.agent action.line action.step r r' can.both.slice ready.low ready.here can.own follows can.agrees legal;
     })
 
-pub place_is : (s s' : SliceState) (action : Action) (l : Line) (slot : Option Slot) → s' ≡ slice_after s action → l ≡ action.line → slot ≡ moved_by s action → place_in s' l slot ≡ place_at s action
-place_is s s' action l slot after at moved = λ i. place_in (after i) (at i) (moved i)
+pub place_is : (s s' : SliceState) (action : Action) (slot : Option Slot) → s' ≡ slice_after s action → slot ≡ moved_by s action → place_in s' action.line slot ≡ place_at s action
+place_is s s' action slot after moved = λ i. place_in (after i) action.line (moved i)

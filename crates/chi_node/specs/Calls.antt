@@ -11,8 +11,7 @@ use Rattle.chi_flit.specs.declared.refusal.Refusal.{Refusal}
 use Rattle.chi_flit.specs.declared.refusal.Refusal.TheVariants.{NotOpen}
 use Rattle.chi_slice.specs.Words.{cells_of, counted, effect_of, keeps_records, part_count, part_of, record_of, IsLegalLog, Record}
 use Rattle.chi_slice.specs.Protocol.{SliceStep}
-use Rattle.chi_slice.specs.Slice.{CanAct, IsRow, SliceKept, SliceState, slice_after, are_in_range, line, moved_by}
-use Rattle.chi_slice.specs.declared.agent_line.AgentRow.{AgentRow}
+use Rattle.chi_slice.specs.Slice.{SliceKept, SliceState, slice_after, are_in_range, line, moved_by}
 use Rattle.chi_slice.specs.Index.{SlotsInRange}
 use Rattle.chi_node.specs.declared.answers.Arrived.{Arrived}
 use Rattle.chi_node.specs.declared.answers.Arrived.TheVariants.{Admitted, Retried}
@@ -63,12 +62,6 @@ pub record BothKept (s : SliceState) (r : RequesterState) : Type 0 where
   pub slots : SlotsInRange s
   pub within : length s.journal.entries ≤ s.journal.limit
   pub requester : RequesterKept r.port.shape.sizes r
-
--- a row of a slice in which agent n acts
-pub record IsRowOf (s : SliceState) (n : ℕ) (at : AgentRow) : Type 0 where
-  pub agent : at.agent.0 ≡ n
-  pub row : IsRow s at
-  pub inside : CanAct s at
 
 -- what is known where the request of an arrival isn't refused
 pub record CanArriveOn (s : SliceState) (r : RequesterState) (l : Line) (request : Request) : Type 0 where

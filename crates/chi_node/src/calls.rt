@@ -1,10 +1,11 @@
 //! The calls for a whole requester on a slice: an arrival of its request, and a step.
 
-ghost use Rattle.std.specs.Prelude.{◌≡◌, true, IfOk};
+ghost use Rattle.std.specs.Prelude.{◌≡◌, ◌<◌, true, is_some, length, IfOk, Some};
 ghost use Rattle.chi_flit.specs.Refusal.{refusal_of};
-ghost use Rattle.chi_slice.specs.Slice.{action_in};
+ghost use Rattle.chi_slice.specs.Slice.{IsRowOf, line_in_row};
+ghost use Rattle.chi_slice.specs.Words.{cells_of, no_flit_unless};
 ghost use Rattle.chi_node.specs.Agree.{Agree};
-ghost use Rattle.chi_node.specs.Calls.{arrival_step, is_own_step, BothKept, CanArriveOn, DoesArrival, DoesStep, IsRowOf, OrNotOpen};
+ghost use Rattle.chi_node.specs.Calls.{arrival_step, is_own_step, BothKept, DoesArrival, DoesStep, OrNotOpen};
 ghost use Rattle.chi_node.specs.Outstanding.{arrival_refusal, outstanding_of, step_refusal};
 ghost use Rattle.chi_node.specs.Parts.{HasTypes};
 
@@ -12,7 +13,7 @@ use crate::agree::agrees;
 use crate::answers::{Arrived, Stepped};
 use crate::requester::Requester;
 use chi_flit::{Action, Line, Refusal, Request, Step};
-use chi_slice::{AgentRow, Slice, Terms, is_step_in_range};
+use chi_slice::{Slice, Terms, is_step_in_range};
 use chi_tracker::Tracker;
 use std::alloc::Allocator;
 
@@ -39,54 +40,61 @@ pub fn arrive_on<A: Allocator, B: Allocator>(
         (Agree slice.old requester.old) (refusal_of result) }
     ensures call { DoesArrival slice.old slice.new line requester.old requester.new result }
 {
-    let at = slice.row_for(requester.number(), line)?;
+    let row = slice.row_for(requester.number(), line)?;
     if agrees(slice, requester) {
-        return arrive_agreed(slice, tracker, requester, at);
+        return arrive_agreed(slice, tracker, requester, row, line);
     }
-    arrival(slice, requester, at)?;
+    arrival(slice, requester, row)?;
     Err(Refusal::NotOpen)
 }
 
 /// As `arrive_on`, of a requester that agrees with the slice, at a line that is there: neither is asked again.
 ///
 /// Refused 7 (NoFlit) exactly where no request of the requester is in flight there; nothing changes then.
-/// Conditions: those of `arrive_on`, that the requester agrees with the slice, and that the row is one that
-/// `row_for` of this slice answered for the requester.
+/// Conditions: those of `arrive_on`, that the requester agrees with the slice, and that the row is the one that
+/// `row_for` of this slice answers for the requester and the line.
 /// Source: `docs/PROTOCOL.md`, "A requester and its calls".
 pub fn arrive_agreed<A: Allocator, B: Allocator>(
     slice: &mut Slice<A>,
     tracker: &Tracker<B>,
     requester: &mut Requester,
-    at: AgentRow,
+    row: u8,
+    line: Line,
 ) -> Result<Arrived, Refusal>
     requires table { requester.old.table ≡ tracker.now.table }
     requires types { HasTypes slice.old.config requester.old.port.shape }
-    requires row { IsRowOf slice.old requester.old.number at }
+    requires row { IsRowOf slice.old requester.old.number line.0 row }
     requires agrees { Agree slice.old requester.old }
-    ensures refusal { refusal_of result ≡ arrival_refusal slice.old requester.old.number at.line.0 }
-    ensures call { DoesArrival slice.old slice.new at.line requester.old requester.new result }
+    ensures refusal { refusal_of result ≡ arrival_refusal slice.old requester.old.number line.0 }
+    ensures call { DoesArrival slice.old slice.new line requester.old requester.new result }
 {
-    let request = arrival(slice, requester, at)?;
+    let agent = requester.number();
+    let request = arrival(slice, requester, row)?;
     let arrived = requester.arrive(tracker, request.slot, request.allow_retry);
     let step = arrival_step(arrived);
-    let Ok(_) = slice.act_in(at, step, Terms::NONE) else {
+    let action = Action { agent, line, step };
+    let Ok(_) = slice.act_in(row, action, Terms::NONE) else {
         unreachable!();
     };
     Ok(arrived)
 }
 
-/// The requester's request that is in flight at the line of its row.
+/// The requester's request that is in flight at the line in a row.
 fn arrival<A: Allocator>(
     slice: &Slice<A>,
     requester: &Requester,
-    at: AgentRow,
+    row: u8,
 ) -> Result<Request, Refusal>
-    requires row { IsRowOf slice.now requester.now.number at }
-    ensures refusal { refusal_of result ≡ arrival_refusal slice.now requester.now.number at.line.0 }
-    ensures ok { IfOk result (λ request. CanArriveOn slice.now requester.now at.line request) }
+    requires row { row < length slice.now.lines }
+    requires agent { requester.now.number < 8 }
+    ensures refusal { refusal_of result ≡ no_flit_unless (is_some
+        (cells_of (line_in_row slice.now row) requester.now.number).req) }
+    ensures request { IfOk result (λ request.
+        (cells_of (line_in_row slice.now row) requester.now.number).req ≡ Some request) }
+    ensures kept { BothKept slice.now requester.now }
 {
     keeps(slice, requester);
-    let Some(request) = slice.flits_in(at).req else {
+    let Some(request) = slice.flits_in(row, requester.number()).req else {
         return Err(Refusal::NoFlit);
     };
     Ok(request)
@@ -127,8 +135,8 @@ pub fn step_on<A: Allocator, B: Allocator>(
     ensures call { DoesStep slice.old slice.new action requester.old requester.new result }
 {
     if agrees(slice, requester) {
-        let at = slice.row_for(action.agent, action.line)?;
-        return step_agreed(slice, tracker, requester, at, action.step);
+        let row = slice.row_for(action.agent, action.line)?;
+        return step_agreed(slice, tracker, requester, row, action);
     }
     may_step(slice, requester, action)?;
     Err(Refusal::NotOpen)
@@ -139,32 +147,32 @@ pub fn step_on<A: Allocator, B: Allocator>(
 /// Refused as `Slice::act` refuses the action, but 10 (OutOfRange) only for a number of the step, with 3
 /// (Pending) also where an Issue's slot isn't Idle in the account, and then 12 (NoCredit) for a Resend without
 /// a seen credit of the pending request's type beyond those for Riding slots; nothing changes then.
-/// Conditions: those of `step_on`, that the requester agrees with the slice, and that the row is one that
-/// `row_for` of this slice answered for the requester.
+/// Conditions: those of `step_on`, that the requester agrees with the slice, and that the row is the one that
+/// `row_for` of this slice answers for the action's agent and line.
 /// Source: `docs/PROTOCOL.md`, "A requester and its calls".
 pub fn step_agreed<A: Allocator, B: Allocator>(
     slice: &mut Slice<A>,
     tracker: &Tracker<B>,
     requester: &mut Requester,
-    at: AgentRow,
-    step: Step,
+    row: u8,
+    action: Action,
 ) -> Result<Stepped, Refusal>
     requires table { requester.old.table ≡ tracker.now.table }
-    requires row { IsRowOf slice.old requester.old.number at }
-    requires step { is_own_step step ≡ true }
+    requires agent { action.agent.0 ≡ requester.old.number }
+    requires row { IsRowOf slice.old action.agent.0 action.line.0 row }
+    requires step { is_own_step action.step ≡ true }
     requires agrees { Agree slice.old requester.old }
     ensures refusal { refusal_of result
-        ≡ step_refusal slice.old (outstanding_of requester.old) (action_in at step) }
-    ensures call { DoesStep slice.old slice.new (action_in at step)
-        requester.old requester.new result }
+        ≡ step_refusal slice.old (outstanding_of requester.old) action }
+    ensures call { DoesStep slice.old slice.new action requester.old requester.new result }
 {
-    if !is_step_in_range(step) {
+    if !is_step_in_range(action.step) {
         return Err(Refusal::OutOfRange);
     }
-    let terms = requester.terms(step);
+    let terms = requester.terms(action.step);
     keeps(slice, requester);
-    let outcome = slice.act_in(at, step, terms)?;
-    let released = requester.finish(slice, tracker, at.line(), step, outcome);
+    let outcome = slice.act_in(row, action, terms)?;
+    let released = requester.finish(slice, tracker, action, outcome);
     Ok(Stepped {
         effect: outcome.effect,
         released,

@@ -4,29 +4,29 @@ ghost use Rattle.std.specs.Prelude.{◌≡◌, Some, is_some, IsTrue};
 ghost use Rattle.chi_node.specs.AfterStep.{place_in, requester_after, CanFinish, CanFollow, Finishes};
 
 use crate::requester::Requester;
-use chi_flit::{Effect, Line, Slot, Step, credit_type};
+use chi_flit::{Action, Effect, Slot, Step, credit_type};
 use chi_slice::{ActionOutcome, Slice};
 use chi_tracker::{Released, Tracker};
 use std::alloc::Allocator;
 
 impl Requester {
-    /// The agent did a step on a line of the slice that completes nothing, and moved the request of the slot, if
-    /// there is one: its account and its counts follow.
+    /// The agent did an action on the slice that completes nothing, and moved the request of the slot, if there is
+    /// one: its account and its counts follow.
     pub(crate) fn follow<A: Allocator>(
         &mut self,
         slice: &Slice<A>,
-        line: Line,
-        step: Step,
+        action: Action,
         moved: Option<Slot>,
     )
-        requires { CanFollow (place_in slice.now line moved) step self.old }
-        ensures { self.new ≡ requester_after (place_in slice.now line moved) step self.old }
+        requires { CanFollow (place_in slice.now action.line moved) action.step self.old }
+        ensures { self.new
+            ≡ requester_after (place_in slice.now action.line moved) action.step self.old }
     {
-        match step {
+        match action.step {
             Step::Load(_) | Step::Store(_, _) => self.count_access(slice.index()),
             Step::Issue(kind, slot) => {
                 let profile = slice.config().profile();
-                self.open(slot, line, credit_type(profile, kind));
+                self.open(slot, action.line, credit_type(profile, kind));
             }
             Step::RecvRetry => self.retry_seen(moved_slot(moved)),
             Step::Resend => self.resend(moved_slot(moved)),
@@ -36,25 +36,24 @@ impl Requester {
         }
     }
 
-    /// The agent did a step on a line of the slice, which came to this: where it completed a request, the slot's
-    /// entry is released. Answers what the release did.
+    /// The agent did an action on the slice, which came to this: where it completed a request, the slot's entry is
+    /// released. Answers what the release did.
     pub(crate) fn finish<A: Allocator, B: Allocator>(
         &mut self,
         slice: &Slice<A>,
         tracker: &Tracker<B>,
-        line: Line,
-        step: Step,
+        action: Action,
         outcome: ActionOutcome,
     ) -> Option<Released>
         requires table { self.old.table ≡ tracker.now.table }
-        requires fits { CanFinish (place_in slice.now line outcome.slot)
-            step outcome.effect self.old }
-        ensures { Finishes (place_in slice.now line outcome.slot)
-            step outcome.effect result self.old self.new }
+        requires fits { CanFinish (place_in slice.now action.line outcome.slot)
+            action.step outcome.effect self.old }
+        ensures { Finishes (place_in slice.now action.line outcome.slot)
+            action.step outcome.effect result self.old self.new }
     {
         match outcome.effect {
             Effect::Nothing | Effect::Value(_) => {
-                self.follow(slice, line, step, outcome.slot);
+                self.follow(slice, action, outcome.slot);
                 None
             }
             Effect::Completed(slot) => Some(self.complete(tracker, slot)),

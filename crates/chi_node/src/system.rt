@@ -6,7 +6,8 @@ ghost use Rattle.atomic_table.specs.Seated.{TableId};
 ghost use Rattle.chi_flit.specs.Credit.{credit_number};
 ghost use Rattle.chi_flit.specs.Refusal.{refusal_of};
 ghost use Rattle.chi_slice.specs.Words.{cells_of, line_view, standing_of, Coherent};
-ghost use Rattle.chi_node.specs.Calls.{is_own_step, IsRowOf};
+ghost use Rattle.chi_slice.specs.Slice.{IsRowOf};
+ghost use Rattle.chi_node.specs.Calls.{is_own_step};
 ghost use Rattle.chi_node.specs.Requester.{RequesterState, no_requester};
 ghost use Rattle.chi_slice.specs.Audits.{IsAudited};
 ghost use Rattle.chi_node.specs.Headline.{Headline};
@@ -25,7 +26,7 @@ use crate::opening::parts;
 use crate::requester::Requester;
 use arrayvec::ArrayVec;
 use chi_flit::{Action, Agent, CreditType, Line, NoMemory, Refusal};
-use chi_slice::{AgentRow, Audit, Cells, Config, LineView, Slice, audit_of};
+use chi_slice::{Audit, Cells, Config, LineView, Slice, audit_of};
 use chi_tracker::{Counts, Law, Released, Tracker};
 use std::alloc::Allocator;
 use std::marker::Model;
@@ -87,13 +88,14 @@ impl<A: Allocator> System<A> {
         ensures err { OnErr result (self.new ≡ self.old) }
         ensures kept { IsSystem self.old }
     {
-        let (place, at) = self.row_for(agent, line)?;
+        let (place, row) = self.row_for(agent, line)?;
         let requesters = self.requesters.as_mut_slice();
         arrive_agreed(
             &mut self.slices[place],
             &self.tracker,
             &mut requesters[usize::from(agent.0)],
-            at,
+            row,
+            line,
         )
     }
 
@@ -111,14 +113,14 @@ impl<A: Allocator> System<A> {
         ensures err { OnErr result (self.new ≡ self.old) }
         ensures kept { IsSystem self.old }
     {
-        let (place, at) = self.row_for(action.agent, action.line)?;
+        let (place, row) = self.row_for(action.agent, action.line)?;
         let requesters = self.requesters.as_mut_slice();
         step_agreed(
             &mut self.slices[place],
             &self.tracker,
             &mut requesters[usize::from(action.agent.0)],
-            at,
-            action.step,
+            row,
+            action,
         )
     }
 
@@ -195,19 +197,19 @@ impl<A: Allocator> System<A> {
         usize::from(self.config.slice_of(line))
     }
 
-    /// The place of a line's slice, and the agent's row there: whether both are in the node is asked of the
-    /// slice alone. Refused 10 (OutOfRange) exactly where not.
-    fn row_for(&self, agent: Agent, line: Line) -> Result<(usize, AgentRow), Refusal>
+    /// The place of a line's slice, and the line's row there: whether agent and line are in the node is asked of
+    /// the slice alone. Refused 10 (OutOfRange) exactly where not.
+    fn row_for(&self, agent: Agent, line: Line) -> Result<(usize, u8), Refusal>
         ensures refusal { refusal_of result ≡ node_flits_refusal self.now.home agent.0 line.0 }
         ensures place { IfOk result (λ found. found.0 ≡ index_of self.now.home line.0) }
-        ensures row { IfOk result (λ found. IsRowOf (slice_of self.now.home line.0) agent.0 found.1) }
-        ensures line { IfOk result (λ found. found.1.line ≡ line) }
+        ensures row { IfOk result
+            (λ found. IsRowOf (slice_of self.now.home line.0) agent.0 line.0 found.1) }
         ensures near { OnOk result (agent.0 < self.now.home.config.agents) }
         ensures kept { IsSystem self.now }
     {
         let place = self.place_of(line);
-        let at = self.slices[place].row_for(agent, line)?;
-        Ok((place, at))
+        let row = self.slices[place].row_for(agent, line)?;
+        Ok((place, row))
     }
 
     /// The slice of a line, lent: that whose index is the line's number modulo the number of slices.

@@ -1,5 +1,6 @@
 -- What an action that was done gives and leaves.
-use Rattle.std.proofs.Common.{◌≡◌, ℕ, List, None, Some, Option, Ok, Err, refl, sym, ◌∙◌, ap, subst, set}
+use Rattle.std.proofs.Common.{◌≡◌, ℕ, List, None, Some, Option, Ok, Err, refl, sym, ◌∙◌, ap, subst, set, get_or}
+use Rattle.std.proofs.lemmas.List.{set-get_or}
 use Rattle.chi_flit.specs.declared.numbers.Slot.{Slot}
 use Rattle.chi_flit.specs.declared.action.Action.{Action}
 use Rattle.chi_flit.specs.declared.action.Effect.{Effect}
@@ -77,6 +78,12 @@ pub ended : {s : SliceState} {row : ℕ} {conditions : Conditions} {at at' : Lin
     → journal' ≡ log_after s.journal (record_by action outcome.effect) → Ended now terms action outcome (record s { lines = set s.lines row at'; journal = journal' }) places'
 ended {s} {row} {conditions} {at} {at'} {outcome} now terms action places places' journal' same i r call move follows noted =
     subst (λ (v : SliceState). Ended v terms action outcome (record s { lines = set s.lines row at'; journal = journal' }) places') same (end_of places places' journal' i r call move follows noted)
+
+-- a line that is put back as it was leaves the slice as it was
+pub put_back : {at : LineState} (now s : SliceState) (row : ℕ) (new : LineState) → s ≡ now → at ≡ get_or s.lines row at → new ≡ at → record s { lines = set s.lines row new } ≡ now
+put_back {at} now s row new same read stays =
+    ap (λ (l : LineState). record s { lines = set s.lines row l }) (stays ∙ read)
+    ∙ (ap (λ (lines : List LineState). record s { lines = lines }) (set-get_or s.lines row at) ∙ same)
 
 -- a call that is refused says why
 pub err_computed : (terms : Terms) (old new : SliceState) (action : Action) (refusal : Refusal) → Some refusal ≡ refused_under terms old action → ComputedUnder terms old action (Err refusal) new

@@ -14,7 +14,6 @@ use Rattle.chi_flit.specs.Refusal.{refusal_of}
 use Rattle.chi_journal.specs.declared.record.Record.{Record}
 use Rattle.chi_journal.specs.Journal.{IsLegalLog, Log, LogKept, line_words, log_with, is_full, opening_log}
 use Rattle.chi_flit.specs.Config.{Sizes, are_in_limits}
-use Rattle.chi_slice.specs.declared.agent_line.AgentRow.{AgentRow}
 use Rattle.chi_slice.specs.declared.terms.Terms.{Terms}
 use Rattle.chi_line.specs.LineState.{LineState, opening_line}
 use Rattle.chi_line.specs.declared.act.Conditions.{Conditions}
@@ -71,16 +70,12 @@ are_in_range s n l = nat_lt n s.config.agents && is_line_in_range s l
 abbrev pub is_in_range : SliceState → Action → Bool
 is_in_range s action = nat_lt action.agent.0 s.config.agents && (is_line_in_range s action.line.0 && is_step_in_range action.step)
 
--- the action of an agent in a row, and that its row is that of its line
-abbrev pub action_in : AgentRow → Step → Action
-action_in at step = record { agent = at.agent; line = at.line; step = step }
-
-abbrev pub IsRow : SliceState → AgentRow → Type 0
-IsRow s at = at.row ≡ row_of_line s at.line.0
-
--- the agent in a row can do each step whose numbers are in their ranges
-abbrev pub CanAct : SliceState → AgentRow → Type 0
-CanAct s at = (step : Step) → is_step_in_range step ≡ true → is_in_range s (action_in at step) ≡ true
+-- the row of line l, in which agent n can act: both are there
+pub record IsRowOf (s : SliceState) (n l row : ℕ) : Type 0 where
+  pub is : row ≡ row_of_line s l
+  pub low : row < length s.lines
+  pub agent : n < 8
+  pub inside : are_in_range s n l ≡ true
 
 -- whether the slot that a step names, if it names one, is in use
 abbrev pub uses_named : SliceState → ℕ → Option Slot → Bool

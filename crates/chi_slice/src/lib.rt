@@ -12,7 +12,7 @@ mod slice;
 mod terms;
 mod verdict;
 
-pub use agent_line::{AgentLine, AgentRow};
+pub use agent_line::AgentLine;
 pub use audits::{Audit, audit_of, check_slice};
 pub use chi_flit::{Action, Config, Effect, Step};
 pub use chi_homeline::{HomeLine, Serving, Waiting};

@@ -12,12 +12,11 @@ ghost use Rattle.chi_slice.specs.Index.{SlotsInRange};
 ghost use Rattle.chi_slice.specs.Loading.{IsLoadable};
 ghost use Rattle.chi_slice.specs.Protocol.{HasLastValue, IsEnabled, IsOpening, WouldComplete, refused, refused_on_terms};
 ghost use Rattle.chi_slice.specs.Run.{IsDone, IsRun};
-ghost use Rattle.chi_slice.specs.Slice.{CanAct, Computed, ComputedUnder, IsRow, SliceKept, action_in, conditions_under, flits_refusal, is_in_range, is_slot_used, no_terms, opening_slice, range_refusal, action_refusal, refused_under, row_count, row_of_line, run_after, slice_with, uses};
+ghost use Rattle.chi_slice.specs.Slice.{Computed, ComputedUnder, IsRowOf, SliceKept, conditions_under, flits_refusal, is_in_range, is_slot_used, no_terms, opening_slice, range_refusal, action_refusal, refused_under, row_count, row_of_line, run_after, slice_with, uses};
 
 mod agreement;
 mod looks;
 
-use crate::agent_line::AgentRow;
 use crate::loading::{are_parts_kept, places_in};
 use crate::places::RequestPlaces;
 use crate::records::{is_step_in_range, note};
@@ -297,69 +296,57 @@ impl<A: Allocator> Slice<A> {
         ensures computed { ComputedUnder terms self.old action result self.new }
         ensures err { OnErr result (self.new ≡ self.old) }
     {
-        let Some(row) = self.row_in_range(action) else {
-            return Err(Refusal::OutOfRange);
-        };
-        let at = AgentRow {
-            agent: action.agent,
-            line: action.line,
-            row,
-        };
-        self.act_in(at, action.step, terms)
+        match self.row_in_range(action) {
+            Some(row) => self.act_in(row, action, terms),
+            None => Err(Refusal::OutOfRange),
+        }
     }
 
-    /// Where the agent acts on the line: whether both are there is asked once, for `flits_in` and `act_in`.
+    /// The row of the line, in which the agent can act: whether both are there is asked once, for `flits_in`,
+    /// `home_in` and `act_in`.
     ///
     /// Refused 10 (OutOfRange) exactly where the agent or the line is outside the node, or the line is in
     /// another slice.
     /// Source: `docs/PROTOCOL.md`, "Limits".
-    pub fn row_for(&self, agent: Agent, line: Line) -> Result<AgentRow, Refusal>
-        ensures agent { IfOk result (λ at. at.agent ≡ agent) }
-        ensures line { IfOk result (λ at. at.line ≡ line) }
-        ensures row { IfOk result (λ at. IsRow self.now at) }
-        ensures inside { IfOk result (λ at. CanAct self.now at) }
+    #[tactic(auto, using(crate::proofs::AgentRows::row_there))]
+    pub fn row_for(&self, agent: Agent, line: Line) -> Result<u8, Refusal>
+        ensures row { IfOk result (IsRowOf self.now agent.0 line.0) }
         ensures refusal { refusal_of result ≡ flits_refusal self.now agent.0 line.0 }
         ensures kept { SliceKept self.now }
         ensures slots { SlotsInRange self.now }
     {
         match self.config.row_in(self.index, line.0) {
-            Some(row) if agent.0 < self.config.agents() => Ok(AgentRow { agent, line, row }),
+            Some(row) if agent.0 < self.config.agents() => Ok(row),
             _ => Err(Refusal::OutOfRange),
         }
     }
 
-    /// Does one action of the agent in a row on the terms of its requester, as `act_under` does it, and asks
+    /// Does one action in the row of its line on the terms of its requester, as `act_under` does it, and asks
     /// for neither the agent nor the line again.
     ///
-    /// Refused as by `act_under`, but never 10; nothing changes then. Conditions: the row is one that `row_for` of
-    /// this slice answered, and the step's numbers are in their ranges.
+    /// Refused as by `act_under`, but never 10; nothing changes then. Conditions: the row is the one that `row_for`
+    /// of this slice answers, and the step's numbers are in their ranges.
     ///
     /// Of the representation, for callers that compute with it: `computed`.
     /// Source: `docs/PROTOCOL.md`, "The actions" and "A requester and its calls".
     #[inline(always)]
     pub fn act_in(
         &mut self,
-        at: AgentRow,
-        step: Step,
+        row: u8,
+        action: Action,
         terms: Terms,
     ) -> Result<ActionOutcome, Refusal>
-        requires row { IsRow self.old at }
-        requires inside { is_in_range self.old (action_in at step) ≡ true }
-        ensures refused { refusal_of result ≡ refused_on_terms terms self.old (action_in at step) }
+        requires row { row ≡ row_of_line self.old action.line.0 }
+        requires inside { is_in_range self.old action ≡ true }
+        ensures refused { refusal_of result ≡ refused_on_terms terms self.old action }
         ensures protocol { IfOk result
-            (λ outcome. IsDone self.old (action_in at step) outcome.effect self.new) }
-        ensures loads { IfOk result
-            (λ outcome. HasLastValue self.old (action_in at step) outcome.effect) }
-        ensures computed { ComputedUnder terms self.old (action_in at step) result self.new }
+            (λ outcome. IsDone self.old action outcome.effect self.new) }
+        ensures loads { IfOk result (λ outcome. HasLastValue self.old action outcome.effect) }
+        ensures computed { ComputedUnder terms self.old action result self.new }
         ensures err { OnErr result (self.new ≡ self.old) }
     {
-        let action = Action {
-            agent: at.agent,
-            line: at.line,
-            step,
-        };
         let conditions = self.conditions(action, terms);
-        let line = &mut self.lines[usize::from(at.row)];
+        let line = &mut self.lines[usize::from(row)];
         let outcome = line.act(conditions, action)?;
         self.places
             .follow(action.agent, action.line, outcome.slot, outcome.to);

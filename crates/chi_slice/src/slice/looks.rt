@@ -1,6 +1,6 @@
 //! What a slice shows of its lines, and what it is.
 
-ghost use Rattle.std.specs.Prelude.{◌≡◌, ◌<◌, ◌&&◌, None, Some, is_some, IfOk, IfSome, OnOk};
+ghost use Rattle.std.specs.Prelude.{◌≡◌, ◌<◌, ◌&&◌, None, Some, is_some, length, IfOk, IfSome, OnOk};
 ghost use Rattle.chi_flit.specs.Refusal.{refusal_of};
 ghost use Rattle.chi_journal.specs.Journal.{IsLegalLog};
 ghost use Rattle.chi_line.specs.Coherence.{Coherent};
@@ -10,9 +10,9 @@ ghost use Rattle.chi_line.specs.View.{line_view};
 ghost use Rattle.chi_slice.specs.Coherence.{IsCoherentSlice};
 ghost use Rattle.chi_slice.specs.Index.{SlotsInRange};
 ghost use Rattle.chi_slice.specs.Loading.{IsLoadable};
-ghost use Rattle.chi_slice.specs.Slice.{CanAct, IsRow, SliceKept, flits_refusal, is_line_in_range, last_of, line as line_of_slice, view_refusal};
+ghost use Rattle.chi_slice.specs.Slice.{SliceKept, flits_refusal, is_line_in_range, last_of, line as line_of_slice, line_in_row, view_refusal};
 
-use crate::agent_line::{AgentLine, AgentRow};
+use crate::agent_line::AgentLine;
 use crate::slice::Slice;
 use chi_flit::{Agent, Config, Line, Refusal};
 use chi_homeline::HomeLine;
@@ -22,37 +22,27 @@ use chi_wires::Cells;
 use std::alloc::Allocator;
 
 impl<A: Allocator> Slice<A> {
-    /// What is in flight between an agent and the home for a line, lent.
+    /// What is in flight between an agent and the home for the line in a row, lent.
     ///
-    /// Conditions: the row is one that `row_for` of this slice answered.
+    /// Conditions: the row is one that `row_for` of this slice answered for the agent.
     /// Source: `docs/PROTOCOL.md`, "Messages".
-    pub fn flits_in(&self, at: AgentRow) -> &Cells
-        requires row { IsRow self.now at }
-        requires inside { CanAct self.now at }
-        ensures { result.now ≡ cells_of (line_of_slice self.now at.line.0) at.agent.0 }
+    pub fn flits_in(&self, row: u8, agent: Agent) -> &Cells
+        requires row { row < length self.now.lines }
+        requires agent { agent.0 < 8 }
+        ensures { result.now ≡ cells_of (line_in_row self.now row) agent.0 }
     {
-        self.lines[usize::from(at.row)].flits(at.agent)
+        self.lines[usize::from(row)].flits(agent)
     }
 
-    /// What the home keeps of a line, lent.
+    /// What the home keeps of the line in a row, lent.
     ///
     /// Conditions: the row is one that `row_for` of this slice answered.
     /// Source: `docs/PROTOCOL.md`, "One line".
-    pub fn home_in(&self, at: AgentRow) -> &HomeLine
-        requires row { IsRow self.now at }
-        requires inside { CanAct self.now at }
-        ensures { result.now ≡ (line_of_slice self.now at.line.0).home }
+    pub fn home_in(&self, row: u8) -> &HomeLine
+        requires row { row < length self.now.lines }
+        ensures { result.now ≡ (line_in_row self.now row).home }
     {
-        self.line_in(at).home()
-    }
-
-    /// The line in a row, lent. Conditions: the row is one that `row_for` of this slice answered.
-    fn line_in(&self, at: AgentRow) -> &chi_line::CoherentLine
-        requires row { IsRow self.now at }
-        requires inside { CanAct self.now at }
-        ensures { result.now ≡ line_of_slice self.now at.line.0 }
-    {
-        &self.lines[usize::from(at.row)]
+        self.lines[usize::from(row)].home()
     }
 
     /// The line, where it is in this slice.

@@ -1,6 +1,6 @@
 -- The slice of the line and the agent's requester are lent, and come back changed.
 use Rattle.std.proofs.Common.{◌≡◌, ◌<◌, rules, subst, sym}
-use Rattle.chi_node.specs.Calls.{IsRowOf}
+use Rattle.chi_slice.specs.Slice.{IsRowOf}
 use Rattle.chi_node.specs.Home.{index_of, slice_of}
 use Rattle.chi_node.specs.System.{SystemState}
 use Rattle.chi_node.proofs.Changed.{arrival_answered, called, can_call, row_found, still_system}
@@ -13,7 +13,7 @@ arrive_agreed-requires g c =
     let call = called y c.args.agent.0 c.args.line.0 c.in_ok-place.place c.from.result c.index_mut.result.now c.index_mut.result.now c.index-requesters-from.result c.index-requesters-from.result c.as_mut_slice-requesters.result.now c.self.invariant.system
     (subst (λ (z : SystemState). c.args.agent.0 < z.home.config.agents) (sym c.self.view_is) c.in_ok-place.ensures.near) (subst (λ (z : SystemState). c.in_ok-place.place ≡ index_of z.home c.args.line.0) (sym c.self.view_is) c.in_ok-place.ensures.place) c.index_mut.ensures.value c.as_mut_slice-requesters.ensures.value c.from.ensures in
     let can = can_call c.self.inside.tracker y _ c.args.agent.0 c.args.line.0 _ _ _ _ c.self.invariant call in
-    let row = row_found c.self.inside.tracker y _ c.args.agent.0 c.args.line.0 _ _ _ _ c.in_ok-place.at c.self.invariant call (subst (λ (z : SystemState). IsRowOf (slice_of z.home c.args.line.0) c.args.agent.0 c.in_ok-place.at) (sym c.self.view_is) c.in_ok-place.ensures.row) in
+    let row = row_found c.self.inside.tracker y _ c.args.agent.0 c.args.line.0 _ _ _ _ c.in_ok-place.row c.self.invariant call (subst (λ (z : SystemState). IsRowOf (slice_of z.home c.args.line.0) c.args.agent.0 c.args.line.0 c.in_ok-place.row) (sym c.self.view_is) c.in_ok-place.ensures.row) in
     record { table = can.of_table; types = can.types; row = row; agrees = can.agrees }
 
 pub invariant_of-self : goal.invariant_of-self
@@ -30,7 +30,7 @@ returns g c =
     let call = called y c.args.agent.0 c.args.line.0 c.in_ok-place.place c.from.result c.index_mut.result.now c.arrive_agreed.new.slice c.index-requesters-from.result c.arrive_agreed.new.requester c.as_mut_slice-requesters.result.now c.self.invariant.system
     (subst (λ (z : SystemState). c.args.agent.0 < z.home.config.agents) (sym c.self.view_is) c.in_ok-place.ensures.near) (subst (λ (z : SystemState). c.in_ok-place.place ≡ index_of z.home c.args.line.0) (sym c.self.view_is) c.in_ok-place.ensures.place) c.index_mut.ensures.value c.as_mut_slice-requesters.ensures.value c.from.ensures in
     let e = c.arrive_agreed.ensures in
-    let said = arrival_answered y _ c.args.agent c.args.line _ _ _ _ _ c.arrive_agreed.result c.self.invariant.system call c.in_ok-place.ensures.line (e.refusal, e.call.ok, e.call.err) in
+    let said = arrival_answered y _ c.args.agent c.args.line _ _ _ _ c.arrive_agreed.result c.self.invariant.system call (e.refusal, e.call.ok, e.call.err) in
     rw (← c.self.view_is) (record { refusal = said.0; ok = said.1; err = said.2; kept = c.self.invariant.system })
 
 pub returns-in_err-place-clause-refusal : goal.returns-in_err-place-clause-refusal
