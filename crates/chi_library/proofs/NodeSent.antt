@@ -11,14 +11,14 @@ use Rattle.chi_flit.specs.declared.refusal.Refusal.TheVariants.{MustAccept, OutO
 use Rattle.chi_slice.specs.Words.{Serving, Sizes, cells_of, flit_of, flits_sent, no_flit_unless, retry_refusal}
 use Rattle.chi_library.specs.Taken.{message_taken}
 use Rattle.chi_slice.specs.Slice.{SliceKept, SliceState, action_refusal, is_line_in_range, line, opening_slice, slice_after}
-use Rattle.chi_slice.proofs.Refused.{on_terms_is, refused_is}
+use Rattle.chi_slice.proofs.Refused.{refused_is, with_credits_is}
 use Rattle.chi_slice.proofs.Refusing.{allowed_alone}
 use Rattle.chi_node.specs.declared.answers.Arrived.{Arrived}
 use Rattle.chi_node.specs.declared.answers.Arrived.TheVariants.{Admitted, Retried}
 use Rattle.chi_node.specs.Arrives.{Arrives}
 use Rattle.chi_node.specs.Calls.{ArrivesAt, arrival_action, arrival_step}
-use Rattle.chi_node.specs.Outstanding.{arrival_refusal, outstanding_of, terms_of}
-use Rattle.chi_node.proofs.RowCalls.{admission}
+use Rattle.chi_node.specs.Outstanding.{arrival_refusal, credits_for, outstanding_of}
+use Rattle.chi_node.proofs.RowCalls.{admission, allowed_with}
 use Rattle.chi_node.specs.Home.{HomeState, index_of, node_line, slice_of, slices_after}
 use Rattle.chi_node.specs.Requester.{RequesterState}
 use Rattle.chi_node.specs.System.{IsSystem, SystemState, requester_of, system_step_refusal}
@@ -41,7 +41,7 @@ pub step_allowed : (y : SystemState) (action : Action) → system_step_refusal y
 step_allowed y action may =
     let s : SliceState = slice_of y.home action.line.0 in
     let r : RequesterState = requester_of y action.agent.0 in
-    allowed_alone (terms_of (outstanding_of r) action.step) s action (on_terms_is (terms_of (outstanding_of r) action.step) s action ∙ may)
+    allowed_alone (credits_for (outstanding_of r) action.step) s action (with_credits_is (credits_for (outstanding_of r) action.step) s action ∙ allowed_with s (outstanding_of r) action may)
 
 -- and of an arrival
 first_attempt : (b : Bool) (slot : ℕ) (ty : _) (r r' : RequesterState) → Arrives b slot (Retried ty) r r' → (if b then None else Some MustAccept) ≡ None

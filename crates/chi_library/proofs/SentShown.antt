@@ -8,7 +8,7 @@ use Rattle.chi_flit.specs.declared.refusal.Refusal.{Refusal}
 use Rattle.chi_flit.specs.declared.refusal.Refusal.TheVariants.{OutOfRange}
 use Rattle.chi_slice.specs.Words.{Flit, line_refusal, after, answer_in, LineState, Serving, SnoopAnswer, answer_flit, cells_of, flit_of, flit_taken, flits_sent, is_step_in_range}
 use Rattle.chi_library.specs.Taken.{answer_message, message_taken}
-use Rattle.chi_slice.specs.Slice.{SliceKept, SliceState, action_refusal, conditions_under, flits_refusal, is_in_range, is_line_in_range, last_of, line, no_terms, row_of_line, slice_after}
+use Rattle.chi_slice.specs.Slice.{SliceKept, SliceState, action_refusal, conditions_under, flits_refusal, is_in_range, is_line_in_range, last_of, line, each_credit, row_of_line, slice_after}
 use Rattle.chi_slice.proofs.Rows.{InRange, in_range}
 use Rattle.chi_slice.proofs.Slices.{line_in_row-with_line}
 use Rattle.chi_library.specs.declared.flits.ChiFlit.{ChiFlit}
@@ -22,7 +22,7 @@ use Rattle.chi_library.proofs.SentLists.{told_over}
 -- an action that isn't refused
 record Allowed (s : SliceState) (action : Action) : Type 0 where
   inside : is_in_range s action ≡ true
-  may : line_refusal (conditions_under no_terms s action) (line s action.line.0) action ≡ None
+  may : line_refusal (conditions_under each_credit s action) (line s action.line.0) action ≡ None
   left : line (slice_after s action) action.line.0 ≡ after s.config.profile (line s action.line.0) action
 
 allowed : (s : SliceState) (action : Action) → SliceKept s → action_refusal s action ≡ None → Allowed s action
@@ -34,8 +34,8 @@ allowed s action k may =
       left = line_in_row-with_line s (row_of_line s action.line.0) (after s.config.profile (line s action.line.0) action) (in_range s action k both.0).row k;
     }
   where
-    go : (b : Bool) → is_in_range s action ≡ b → (if b then line_refusal (conditions_under no_terms s action) (line s action.line.0) action else Some OutOfRange) ≡ None
-        → (is_in_range s action ≡ true) × (line_refusal (conditions_under no_terms s action) (line s action.line.0) action ≡ None)
+    go : (b : Bool) → is_in_range s action ≡ b → (if b then line_refusal (conditions_under each_credit s action) (line s action.line.0) action else Some OutOfRange) ≡ None
+        → (is_in_range s action ≡ true) × (line_refusal (conditions_under each_credit s action) (line s action.line.0) action ≡ None)
     go true is may = (is, may)
     go false is may = absurd (cc (may))
 
@@ -57,7 +57,7 @@ shown s new action before taken k may done served is =
     let inside : InRange s action = in_range s action k may_do.inside in
     ap (λ (v : SliceState). line_standing (line v action.line.0) action.agent before taken action.step) done
     ∙ (ap (λ (l : LineState). line_standing l action.agent before taken action.step) may_do.left
-    ∙ stands (conditions_under no_terms s action) (last_of s action.line.0) (line s action.line.0) action.agent before taken action.step inside.agent (k.lines action.line.0 inside.line) may_do.may served is)
+    ∙ stands (conditions_under each_credit s action) (last_of s action.line.0) (line s action.line.0) action.agent before taken action.step inside.agent (k.lines action.line.0 inside.line) may_do.may served is)
 
 pub sent_is : (s new : SliceState) (action : Action) (before : Serving) (taken : ChiFlit) (old array : List ChiSent) (count : ℕ) → SliceKept s → action_refusal s action ≡ None → new ≡ slice_after s action
     → before ≡ (line s action.line.0).home.serving → taken ≡ (taken_told (flit_of action.agent (message_taken (cells_of (line s action.line.0) action.agent.0) action.step))).flit
@@ -80,7 +80,7 @@ pub unseen_refused : (s : SliceState) (action : Action) (refusal : Refusal) → 
 unseen_refused s action refusal h = go (nat_lt action.agent.0 s.config.agents) (is_line_in_range s action.line.0) h
   where
     go : (a b : Bool) → Some refusal ≡ (if a && b then None else Some OutOfRange)
-        → Some refusal ≡ (if a && (b && is_step_in_range action.step) then line_refusal (conditions_under no_terms s action) (line s action.line.0) action else Some OutOfRange)
+        → Some refusal ≡ (if a && (b && is_step_in_range action.step) then line_refusal (conditions_under each_credit s action) (line s action.line.0) action else Some OutOfRange)
     go true true h = absurd (cc (h))
     go true false h = h
     go false b h = h

@@ -12,7 +12,7 @@ use crate::actions::{ChiAction, action_told};
 use crate::answers::{CLOSED, DONE};
 use crate::slice_handle::ChiSlice;
 use chi_flit::{Action, Agent, Kind, Line, Slot, Step, WordNo};
-use chi_slice::{Slice, Terms};
+use chi_slice::{EACH_CREDIT, Slice};
 use std::alloc::Global;
 
 /// The agent's actions at the line that `chi_slice_act` would do, in the order of their numbers: each step once,
@@ -119,7 +119,7 @@ fn list_enabled(
     for step in steps {
         let step = *step;
         let action = Action { agent, line, step };
-        if slice.refusal(action, Terms::NONE).is_none() {
+        if slice.refusal(action, EACH_CREDIT).is_none() {
             actions[usize::from(count)] = action_told(action);
             count += 1;
         }

@@ -22,7 +22,7 @@ use crate::records::{ChiRecord, record_told};
 use crate::sizes::{ChiConfig, config_at};
 use crate::slice_handle::ChiSlice;
 use chi_flit::{Agent, Line, NoMemory};
-use chi_slice::{Config, Slice, Terms, check_slice};
+use chi_slice::{Config, EACH_CREDIT, Slice, check_slice};
 use std::alloc::Global;
 
 /// Opens a slice of a node of these sizes, in its opening state. All memory that it ever needs is taken
@@ -284,7 +284,7 @@ fn refusal(slice: &Slice<Global>, action: &ChiAction) -> u8
     ensures { result ≡ number_if (decoded_refusal (action_of action.now) slice.now) }
 {
     match action_at(action) {
-        Some(action) => number_if(slice.refusal(action, Terms::NONE)),
+        Some(action) => number_if(slice.refusal(action, EACH_CREDIT)),
         None => OUT_OF_RANGE,
     }
 }

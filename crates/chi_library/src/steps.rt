@@ -21,7 +21,7 @@ use crate::sent::{
 };
 use crate::slice_handle::ChiSlice;
 use chi_flit::{Action, Channel, Effect, Refusal, Step};
-use chi_slice::{Serving, Slice, Terms};
+use chi_slice::{EACH_CREDIT, Serving, Slice};
 use std::alloc::Global;
 
 /// Does one action as `chi_slice_act` does it, and tells the flits that it sent, by agent, and the one that it
@@ -171,7 +171,7 @@ fn act_in_row(slice: &mut Slice<Global>, row: u8, action: Action) -> Result<Effe
     ensures after { OnOk result (slice.new ≡ slice_after slice.old action) }
     ensures err { OnErr result (slice.new ≡ slice.old) }
 {
-    let outcome = slice.act_in(row, action, Terms::NONE)?;
+    let outcome = slice.act_in(row, action, EACH_CREDIT)?;
     Ok(outcome.effect)
 }
 

@@ -35,7 +35,8 @@ use Rattle.chi_node.specs.Parts.{is_of_profile}
 use Rattle.chi_node.specs.Requester.{RequesterState, with_both}
 use Rattle.chi_node.specs.Arrives.{Arrives, CanArrive}
 use Rattle.chi_node.specs.Agree.{Agree, KeepsAgreement}
-use Rattle.chi_node.specs.Calls.{CanArriveOn, arrival_action, arrival_step}
+use Rattle.chi_node.specs.Calls.{arrival_action, arrival_step}
+use Rattle.chi_node.proofs.RowCalls.{CanArriveOn}
 use Rattle.chi_tracker.proofs.Entries.{credit_below}
 use Rattle.chi_node.proofs.Matches.{itself, same_number}
 use Rattle.chi_node.proofs.Records.{tells_of}

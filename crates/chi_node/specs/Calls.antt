@@ -11,7 +11,7 @@ use Rattle.chi_flit.specs.declared.refusal.Refusal.{Refusal}
 use Rattle.chi_flit.specs.declared.refusal.Refusal.TheVariants.{NotOpen}
 use Rattle.chi_slice.specs.Words.{cells_of, counted, effect_of, keeps_records, part_count, part_of, record_of, IsLegalLog, Record}
 use Rattle.chi_slice.specs.Protocol.{SliceStep}
-use Rattle.chi_slice.specs.Slice.{SliceKept, SliceState, slice_after, are_in_range, line, moved_by}
+use Rattle.chi_slice.specs.Slice.{SliceKept, SliceState, slice_after, line, moved_by}
 use Rattle.chi_slice.specs.Index.{SlotsInRange}
 use Rattle.chi_node.specs.declared.answers.Arrived.{Arrived}
 use Rattle.chi_node.specs.declared.answers.Arrived.TheVariants.{Admitted, Retried}
@@ -61,14 +61,6 @@ pub record BothKept (s : SliceState) (r : RequesterState) : Type 0 where
   pub slice : SliceKept s
   pub slots : SlotsInRange s
   pub within : length s.journal.entries ≤ s.journal.limit
-  pub requester : RequesterKept r.port.shape.sizes r
-
--- what is known where the request of an arrival isn't refused
-pub record CanArriveOn (s : SliceState) (r : RequesterState) (l : Line) (request : Request) : Type 0 where
-  pub kept : SliceKept s
-  pub numbers : SlotsInRange s
-  pub inside : are_in_range s r.number l.0 ≡ true
-  pub flit : (cells_of (line s l.0) r.number).req ≡ Some request
   pub requester : RequesterKept r.port.shape.sizes r
 
 -- what an arrival leaves of the slice, by its row of the protocol, and of its requester

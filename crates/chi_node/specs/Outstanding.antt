@@ -1,23 +1,21 @@
 -- A requester as its caller can count it, and why each of its calls is refused (docs/PROTOCOL.md, "A requester and
 -- its calls").
-use Rattle.std.specs.Prelude.{ℕ, Bool, false, true, not, ◌&&◌, nat_lt, List, [], ◌∷◌, Option, Some, None, replicate, slice_index, if◌then◌else◌}
+use Rattle.std.specs.Prelude.{ℕ, Bool, false, not, ◌&&◌, nat_lt, List, [], ◌∷◌, Option, Some, None, slice_index, if◌then◌else◌}
 use Rattle.std.specs.Option.{option_or}
 use Rattle.chi_flit.specs.declared.action.Action.{Action}
 use Rattle.chi_flit.specs.declared.action.Step.{Step}
 use Rattle.chi_flit.specs.declared.action.Step.TheVariants as steps
 use Rattle.chi_flit.specs.declared.credit.CreditType.{CreditType}
-use Rattle.chi_flit.specs.declared.numbers.Slot.{Slot}
 use Rattle.chi_flit.specs.declared.refusal.Refusal.{Refusal}
-use Rattle.chi_flit.specs.declared.refusal.Refusal.TheVariants.{NoCredit, OutOfRange}
+use Rattle.chi_flit.specs.declared.refusal.Refusal.TheVariants.{NoCredit, OutOfRange, Pending}
 use Rattle.chi_flit.specs.Credit.{credit_number}
 use Rattle.chi_tracker.specs.Views.{PortView}
 use Rattle.chi_tracker.specs.Calls.{seen_of}
 use Rattle.chi_credit.specs.declared.slot.SlotRecord.{SlotRecord}
 use Rattle.chi_credit.specs.Slot.{is_idle_state}
 use Rattle.chi_credit.specs.Account.{lowest_cancelled, riding_of, state_at}
-use Rattle.chi_slice.specs.declared.terms.Terms.{Terms}
-use Rattle.chi_slice.specs.Protocol.{refused, refused_on_terms}
-use Rattle.chi_slice.specs.Slice.{SliceState, no_terms}
+use Rattle.chi_slice.specs.Protocol.{refused, refused_with}
+use Rattle.chi_slice.specs.Slice.{SliceState, each_credit, is_in_range}
 use Rattle.chi_node.specs.Home.{HomeState}
 use Rattle.chi_node.specs.Requester.{RequesterState}
 
@@ -39,18 +37,20 @@ outstanding_of r = record { entries = r.port.shape.sizes; slots = r.slots; seen 
 abbrev pub has_spare : Outstanding → ℕ → Bool
 has_spare r t = nat_lt (riding_of r.slots t) (slice_index r.seen t)
 
--- what it adds to the conditions of a step: an Issue's slot has to be Idle, and a Resend needs a spare credit
-abbrev pub is_taken : List SlotRecord → Slot → Bool
-is_taken slots slot = nat_lt slot.0 8 && not (is_idle_state (state_at slots slot.0))
+-- whether a step is an Issue of a slot that isn't Idle
+abbrev pub names_taken : List SlotRecord → Step → Bool
+names_taken slots (steps.Issue kind slot) = not (is_idle_state (state_at slots slot.0))
+names_taken slots other = false
 
-abbrev pub terms_of : Outstanding → Step → Terms
-terms_of r (steps.Issue kind slot) = record { slot_taken = is_taken r.slots slot; credits = replicate 4 true }
-terms_of r steps.Resend = record { slot_taken = false; credits = has_spare r 0 ∷ has_spare r 1 ∷ has_spare r 2 ∷ has_spare r 3 ∷ [] }
-terms_of r other = no_terms
+-- the credits that it has for a step: a Resend needs one that is spare
+abbrev pub credits_for : Outstanding → Step → List Bool
+credits_for r steps.Resend = has_spare r 0 ∷ has_spare r 1 ∷ has_spare r 2 ∷ has_spare r 3 ∷ []
+credits_for r other = each_credit
 
--- step: as the slice refuses the action on these terms
+-- step: 3 for an Issue of a slot that isn't Idle, where all numbers are in their ranges, and else as the slice refuses the
+-- action with these credits
 abbrev pub step_refusal : SliceState → Outstanding → Action → Option Refusal
-step_refusal s r action = refused_on_terms (terms_of r action.step) s action
+step_refusal s r action = if is_in_range s action && names_taken r.slots action.step then Some Pending else refused_with (credits_for r action.step) s action
 
 -- arrive, of agent n at line l: as the slice refuses an Admit, to whose conditions a requester adds nothing
 abbrev pub arrival_refusal : SliceState → ℕ → ℕ → Option Refusal

@@ -13,7 +13,7 @@ use crate::agree::agrees;
 use crate::answers::{Arrived, Stepped};
 use crate::requester::Requester;
 use chi_flit::{Action, Line, Refusal, Request, Step};
-use chi_slice::{Slice, Terms, is_step_in_range};
+use chi_slice::{EACH_CREDIT, Slice, is_step_in_range};
 use chi_tracker::Tracker;
 use std::alloc::Allocator;
 
@@ -73,7 +73,7 @@ pub fn arrive_agreed<A: Allocator, B: Allocator>(
     let arrived = requester.arrive(tracker, request.slot, request.allow_retry);
     let step = arrival_step(arrived);
     let action = Action { agent, line, step };
-    let Ok(_) = slice.act_in(row, action, Terms::NONE) else {
+    let Ok(_) = slice.act_in(row, action, EACH_CREDIT) else {
         unreachable!();
     };
     Ok(arrived)
@@ -169,9 +169,12 @@ pub fn step_agreed<A: Allocator, B: Allocator>(
     if !is_step_in_range(action.step) {
         return Err(Refusal::OutOfRange);
     }
-    let terms = requester.terms(action.step);
+    if requester.is_taken(action.step) {
+        return Err(Refusal::Pending);
+    }
+    let credits = requester.credits_for(action.step);
     keeps(slice, requester);
-    let outcome = slice.act_in(row, action, terms)?;
+    let outcome = slice.act_in(row, action, credits)?;
     let released = requester.finish(slice, tracker, action, outcome);
     Ok(Stepped {
         effect: outcome.effect,
@@ -187,7 +190,14 @@ fn may_step<A: Allocator>(
 ) -> Result<(), Refusal>
     ensures { refusal_of result ≡ step_refusal slice.now (outstanding_of requester.now) action }
 {
-    match slice.refusal(action, requester.terms(action.step)) {
+    slice.row_for(action.agent, action.line)?;
+    if !is_step_in_range(action.step) {
+        return Err(Refusal::OutOfRange);
+    }
+    if requester.is_taken(action.step) {
+        return Err(Refusal::Pending);
+    }
+    match slice.refusal(action, requester.credits_for(action.step)) {
         Some(refusal) => Err(refusal),
         None => Ok(()),
     }

@@ -14,6 +14,7 @@ mod answers;
 mod arrivals;
 mod calls;
 mod coherence;
+mod conditions;
 mod locks;
 mod meeting;
 mod node;
@@ -22,7 +23,6 @@ mod own;
 mod requester;
 mod steps;
 mod system;
-mod terms;
 
 pub use agree::{agree_with, agrees};
 pub use answers::{Arrived, Stepped};

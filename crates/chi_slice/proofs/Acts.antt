@@ -30,7 +30,6 @@ use Rattle.chi_line.specs.Meaning.{standing_of}
 use Rattle.chi_line.specs.Protocol.{LineStep}
 use Rattle.chi_line.proofs.Protocol.{line_step}
 use Rattle.chi_slice.specs.Protocol.{SliceStep}
-use Rattle.chi_slice.specs.declared.terms.Terms.{Terms}
 use Rattle.chi_slice.specs.Recorded.{CanAppend, done_record, record_by}
 use Rattle.chi_slice.specs.Slice.{KeepsSliceFlits, OtherLinesStay, SliceKept, SliceState, slice_after, conditions_under, entry_of, is_in_range, is_slot_used, last_of, line, line_in_row, range_refusal, log_after, action_refusal, refused_under, row_count, row_of_line, uses}
 use Rattle.chi_slice.proofs.Refusing.{allowed_alone, conditions_of}
@@ -168,26 +167,26 @@ not_out s action inside = go (is_in_range s action) inside
     go false is = absurd (cc (is))
 
 -- one whose numbers are refused is refused, whatever its line says
-pub out_refused : (terms : Terms) (s : SliceState) (action : Action) (refusal : Refusal) → Some refusal ≡ range_refusal s action → Some refusal ≡ refused_under terms s action
-out_refused terms s action refusal h = go (is_in_range s action) h
+pub out_refused : (credits : List Bool) (s : SliceState) (action : Action) (refusal : Refusal) → Some refusal ≡ range_refusal s action → Some refusal ≡ refused_under credits s action
+out_refused credits s action refusal h = go (is_in_range s action) h
   where
-    go : (b : Bool) → Some refusal ≡ (if b then None else Some OutOfRange) → Some refusal ≡ (if b then line_refusal (conditions_under terms s action) (line s action.line.0) action else Some OutOfRange)
+    go : (b : Bool) → Some refusal ≡ (if b then None else Some OutOfRange) → Some refusal ≡ (if b then line_refusal (conditions_under credits s action) (line s action.line.0) action else Some OutOfRange)
     go true h = absurd (cc (h))
     go false h = h
 
 -- an action that is in range, with its line out of its row, and what it has to know of the slice beside it
-pub record Ready (s : SliceState) (terms : Terms) (action : Action) (row : ℕ) (conditions : Conditions) (at : LineState) : Type 0 where
+pub record Ready (s : SliceState) (credits : List Bool) (action : Action) (row : ℕ) (conditions : Conditions) (at : LineState) : Type 0 where
   pub kept : SliceKept s
   pub inside : is_in_range s action ≡ true
   pub row_is : row ≡ row_of_line s action.line.0
-  pub conditions_is : conditions ≡ conditions_under terms s action
+  pub conditions_is : conditions ≡ conditions_under credits s action
   pub line_is : at ≡ line s action.line.0
 
 -- what was looked up in the slice as it is now, and read out of its parts
-pub ready : {s : SliceState} {row : ℕ} {conditions : Conditions} {at : LineState} (now : SliceState) (terms : Terms) (action : Action) → SliceKept s → s ≡ now → None ≡ range_refusal now action → row ≡ row_of_line now action.line.0
-    → conditions ≡ conditions_under terms now action → at ≡ get_or s.lines row at → Ready s terms action row conditions at
-ready {s} {row} {conditions} {at} now terms action k same inside row_is conditions_is read =
-    subst (λ (v : SliceState). None ≡ range_refusal v action → row ≡ row_of_line v action.line.0 → conditions ≡ conditions_under terms v action → Ready s terms action row conditions at) same
+pub ready : {s : SliceState} {row : ℕ} {conditions : Conditions} {at : LineState} (now : SliceState) (credits : List Bool) (action : Action) → SliceKept s → s ≡ now → None ≡ range_refusal now action → row ≡ row_of_line now action.line.0
+    → conditions ≡ conditions_under credits now action → at ≡ get_or s.lines row at → Ready s credits action row conditions at
+ready {s} {row} {conditions} {at} now credits action k same inside row_is conditions_is read =
+    subst (λ (v : SliceState). None ≡ range_refusal v action → row ≡ row_of_line v action.line.0 → conditions ≡ conditions_under credits v action → Ready s credits action row conditions at) same
     (λ inside row_is conditions_is.
     let here : is_in_range s action ≡ true = inside_of s action inside in
     let low : row < length s.lines = omega (arith, (in_range s action k here).row, k.rows, row_is) in
@@ -195,31 +194,31 @@ ready {s} {row} {conditions} {at} now terms action k same inside row_is conditio
     inside row_is conditions_is
 
 -- the line keeps what a line keeps
-pub line_kept : {s : SliceState} {terms : Terms} {action : Action} {row : ℕ} {conditions : Conditions} {at : LineState} → Ready s terms action row conditions at → (last : List ℕ) × Kept last at
-line_kept {s} {terms} {action} r = (last_of s action.line.0, subst (Kept (last_of s action.line.0)) (sym r.line_is) (r.kept.lines action.line.0 (in_range s action r.kept r.inside).line))
+pub line_kept : {s : SliceState} {credits : List Bool} {action : Action} {row : ℕ} {conditions : Conditions} {at : LineState} → Ready s credits action row conditions at → (last : List ℕ) × Kept last at
+line_kept {s} {credits} {action} r = (last_of s action.line.0, subst (Kept (last_of s action.line.0)) (sym r.line_is) (r.kept.lines action.line.0 (in_range s action r.kept r.inside).line))
 
 -- what refuses the action on its line refuses it
-pub refused_here : {s : SliceState} {terms : Terms} {action : Action} {row : ℕ} {conditions : Conditions} {at : LineState} → Ready s terms action row conditions at → line_refusal conditions at action ≡ refused_under terms s action
-refused_here {s} {terms} {action} {row} {conditions} {at} r =
+pub refused_here : {s : SliceState} {credits : List Bool} {action : Action} {row : ℕ} {conditions : Conditions} {at : LineState} → Ready s credits action row conditions at → line_refusal conditions at action ≡ refused_under credits s action
+refused_here {s} {credits} {action} {row} {conditions} {at} r =
     ap (λ (x : Conditions). line_refusal x at action) r.conditions_is
-    ∙ (ap (λ (l : LineState). line_refusal (conditions_under terms s action) l action) r.line_is
-    ∙ ap (λ (b : Bool). if b then line_refusal (conditions_under terms s action) (line s action.line.0) action else Some OutOfRange) (sym r.inside))
+    ∙ (ap (λ (l : LineState). line_refusal (conditions_under credits s action) l action) r.line_is
+    ∙ ap (λ (b : Bool). if b then line_refusal (conditions_under credits s action) (line s action.line.0) action else Some OutOfRange) (sym r.inside))
 
-pub refused_now : {now s : SliceState} {terms : Terms} {action : Action} {row : ℕ} {conditions : Conditions} {at : LineState} → s ≡ now → Ready s terms action row conditions at → line_refusal conditions at action ≡ refused_under terms now action
-refused_now {now} {s} {terms} {action} same r = refused_here r ∙ ap (λ (v : SliceState). refused_under terms v action) same
+pub refused_now : {now s : SliceState} {credits : List Bool} {action : Action} {row : ℕ} {conditions : Conditions} {at : LineState} → s ≡ now → Ready s credits action row conditions at → line_refusal conditions at action ≡ refused_under credits now action
+refused_now {now} {s} {credits} {action} same r = refused_here r ∙ ap (λ (v : SliceState). refused_under credits v action) same
 
 -- an action that its line doesn't refuse is allowed by the slice alone
-pub allowed_here : {s : SliceState} {terms : Terms} {action : Action} {row : ℕ} {conditions : Conditions} {at : LineState} → Ready s terms action row conditions at → None ≡ line_refusal conditions at action → Allowed s action
-allowed_here {s} {terms} {action} r may = allowed s action (allowed_alone terms s action (sym (may ∙ refused_here r)))
+pub allowed_here : {s : SliceState} {credits : List Bool} {action : Action} {row : ℕ} {conditions : Conditions} {at : LineState} → Ready s credits action row conditions at → None ≡ line_refusal conditions at action → Allowed s action
+allowed_here {s} {credits} {action} r may = allowed s action (allowed_alone credits s action (sym (may ∙ refused_here r)))
 
 -- the record of its effect is that of the action
-entry_here : {s : SliceState} {terms : Terms} {action : Action} {row : ℕ} {conditions : Conditions} {at : LineState} (effect : Effect) → Ready s terms action row conditions at → effect ≡ effect_of at action → record_by action effect ≡ entry_of s action
-entry_here {s} {terms} {action} {row} {conditions} {at} effect r is = recorded_as at action effect is ∙ ap (λ (l : LineState). record_of l action) r.line_is
+entry_here : {s : SliceState} {credits : List Bool} {action : Action} {row : ℕ} {conditions : Conditions} {at : LineState} (effect : Effect) → Ready s credits action row conditions at → effect ≡ effect_of at action → record_by action effect ≡ entry_of s action
+entry_here {s} {credits} {action} {row} {conditions} {at} effect r is = recorded_as at action effect is ∙ ap (λ (l : LineState). record_of l action) r.line_is
 
 -- the journal has room for it
-pub room_for : {s : SliceState} {terms : Terms} {action : Action} {row : ℕ} {conditions : Conditions} {at : LineState} {effect : Effect} → Ready s terms action row conditions at → None ≡ line_refusal conditions at action → effect ≡ effect_of at action
+pub room_for : {s : SliceState} {credits : List Bool} {action : Action} {row : ℕ} {conditions : Conditions} {at : LineState} {effect : Effect} → Ready s credits action row conditions at → None ≡ line_refusal conditions at action → effect ≡ effect_of at action
     → CanAppend s.journal (record_by action effect)
-room_for {s} {terms} {action} {row} {conditions} {at} {effect} r may is = subst (CanAppend s.journal) (sym (entry_here effect r is)) (entry_fits s action r.kept (allowed_here r may)).1
+room_for {s} {credits} {action} {row} {conditions} {at} {effect} r may is = subst (CanAppend s.journal) (sym (entry_here effect r is)) (entry_fits s action r.kept (allowed_here r may)).1
 
 -- what the call on the line gives and leaves, where it isn't refused
 pub record Call (conditions : Conditions) (action : Action) (at at' : LineState) (effect : Effect) : Type 0 where
@@ -228,21 +227,21 @@ pub record Call (conditions : Conditions) (action : Action) (at at' : LineState)
   pub after_is : at' ≡ after conditions.profile at action
   pub flits : KeepsFlits conditions.profile at action at'
 
-line_left : {s : SliceState} {terms : Terms} {action : Action} {row : ℕ} {conditions : Conditions} {at at' : LineState} → at' ≡ after conditions.profile at action → Ready s terms action row conditions at
+line_left : {s : SliceState} {credits : List Bool} {action : Action} {row : ℕ} {conditions : Conditions} {at at' : LineState} → at' ≡ after conditions.profile at action → Ready s credits action row conditions at
     → at' ≡ after s.config.profile (line s action.line.0) action
-line_left {s} {terms} {action} {row} {conditions} {at} is r = is ∙ (ap (λ (x : Conditions). after x.profile at action) r.conditions_is ∙ ap (λ (l : LineState). after s.config.profile l action) r.line_is)
+line_left {s} {credits} {action} {row} {conditions} {at} is r = is ∙ (ap (λ (x : Conditions). after x.profile at action) r.conditions_is ∙ ap (λ (l : LineState). after s.config.profile l action) r.line_is)
 
 -- the line that it leaves, with the journal and its record, are what the action leaves
-pub changed : {s : SliceState} {terms : Terms} {action : Action} {row : ℕ} {conditions : Conditions} {at at' : LineState} {effect : Effect} (journal' : Log) → Ready s terms action row conditions at
+pub changed : {s : SliceState} {credits : List Bool} {action : Action} {row : ℕ} {conditions : Conditions} {at at' : LineState} {effect : Effect} (journal' : Log) → Ready s credits action row conditions at
     → Call conditions action at at' effect → journal' ≡ log_after s.journal (record_by action effect) → record s { lines = set s.lines row at'; journal = journal' } ≡ slice_after s action
-changed {s} {terms} {action} {row} {conditions} {at} {at'} {effect} journal' r call noted =
+changed {s} {credits} {action} {row} {conditions} {at} {at'} {effect} journal' r call noted =
     ap (λ (n : ℕ). record s { lines = set s.lines n at'; journal = journal' }) r.row_is
     ∙ (ap (λ (l : LineState). record s { lines = set s.lines (row_of_line s action.line.0) l; journal = journal' }) (line_left call.after_is r)
     ∙ ap (λ (log : Log). record s { lines = set s.lines (row_of_line s action.line.0) (after s.config.profile (line s action.line.0) action); journal = log }) (noted ∙ ap (log_after s.journal) (entry_here effect r call.effect_is)))
 
 -- no flit is lost or made
-pub balanced : {s : SliceState} {terms : Terms} {action : Action} {row : ℕ} {conditions : Conditions} {at at' : LineState} {effect : Effect} → Ready s terms action row conditions at → Call conditions action at at' effect → KeepsSliceFlits s action (slice_after s action)
-balanced {s} {terms} {action} {row} {conditions} {at} {at'} r call =
+pub balanced : {s : SliceState} {credits : List Bool} {action : Action} {row : ℕ} {conditions : Conditions} {at at' : LineState} {effect : Effect} → Ready s credits action row conditions at → Call conditions action at at' effect → KeepsSliceFlits s action (slice_after s action)
+balanced {s} {credits} {action} {row} {conditions} {at} {at'} r call =
     let left : LineState = after s.config.profile (line s action.line.0) action in
     let there : at' ≡ line (slice_after s action) action.line.0 =
     line_left call.after_is r ∙ sym (line_in_row-with_line s (row_of_line s action.line.0) left (in_range s action r.kept r.inside).row r.kept) in

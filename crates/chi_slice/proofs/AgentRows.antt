@@ -1,5 +1,5 @@
 -- The row of a line that is in the slice, for an agent that is in the node.
-use Rattle.std.proofs.Common.{◌≡◌, ◌<◌, ◌∙◌, ℕ, ◌&&◌, Bool, true, false, nat_lt, refl, sym, subst, arith}
+use Rattle.std.proofs.Common.{◌≡◌, ℕ, ◌&&◌, Bool, true, false, nat_lt, refl, arith}
 use Rattle.std.proofs.Math.ListN.{length-set}
 use Rattle.chi_flit.specs.declared.action.Action.{Action}
 use Rattle.chi_flit.specs.declared.action.Step.TheVariants as steps

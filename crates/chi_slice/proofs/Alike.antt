@@ -9,34 +9,32 @@ use Rattle.chi_line.specs.Meaning.{standing_of}
 use Rattle.chi_line.specs.Protocol.{Standing}
 use Rattle.chi_line.specs.RefusalRows.{Room, refusal_row, refused_if}
 use Rattle.chi_line.specs.Step.{is_step_in_range}
-use Rattle.chi_slice.specs.declared.terms.Terms.{Terms}
 use Rattle.chi_flit.specs.Config.{Sizes}
 use Rattle.chi_slice.specs.Run.{AreAlike, AreElsewhere, IsRun, IsSameRoom, IsTried}
-use Rattle.chi_slice.specs.Protocol.{lacks_credit, refused, refused_on_terms, room_for, room_under}
+use Rattle.chi_slice.specs.Protocol.{lacks_credit, refused, refused_with, room_for}
 use Rattle.chi_slice.specs.Slice.{SliceState, is_in_range, is_line_in_range, line}
 use Rattle.chi_slice.proofs.Rows.{both}
 use Rattle.chi_slice.proofs.Runs.{run_keeps, tried_keeps}
 
 -- the refusal by what it depends on
-abbrev refusal_by : Terms → Action → Bool → Room → Profile → Standing → Option Refusal
-refusal_by terms action inside room profile l =
-    refused_if (not inside) OutOfRange
-    (option_or (refusal_row (room_under terms room) l action.agent action.step)
-    (refused_if (lacks_credit terms.credits profile (l.pending action.agent) action.step) NoCredit None))
+abbrev refusal_by : List Bool → Action → Bool → Room → Profile → Standing → Option Refusal
+refusal_by credits action inside room profile l =
+    option_or (refused_if (not inside) OutOfRange (refusal_row room l action.agent action.step))
+    (refused_if (lacks_credit credits profile (l.pending action.agent) action.step) NoCredit None)
 
-refusal_same : (terms : Terms) (action : Action) (i i' : Bool) (r r' : Room) (p p' : Profile) (l l' : Standing) → i ≡ i' → r ≡ r' → p ≡ p' → l ≡ l'
-    → refusal_by terms action i r p l ≡ refusal_by terms action i' r' p' l'
-refusal_same terms action i i' r r' p p' l l' is rs ps ls =
-    ap (λ (x : Bool). refusal_by terms action x r p l) is
-    ∙ (ap (λ (x : Room). refusal_by terms action i' x p l) rs
-    ∙ (ap (λ (x : Profile). refusal_by terms action i' r' x l) ps
-    ∙ ap (λ (x : Standing). refusal_by terms action i' r' p' x) ls))
+refusal_same : (credits : List Bool) (action : Action) (i i' : Bool) (r r' : Room) (p p' : Profile) (l l' : Standing) → i ≡ i' → r ≡ r' → p ≡ p' → l ≡ l'
+    → refusal_by credits action i r p l ≡ refusal_by credits action i' r' p' l'
+refusal_same credits action i i' r r' p p' l l' is rs ps ls =
+    ap (λ (x : Bool). refusal_by credits action x r p l) is
+    ∙ (ap (λ (x : Room). refusal_by credits action i' x p l) rs
+    ∙ (ap (λ (x : Profile). refusal_by credits action i' r' x l) ps
+    ∙ ap (λ (x : Standing). refusal_by credits action i' r' p' x) ls))
 
-pub alike_refused : (terms : Terms) (s t : SliceState) (action : Action) → AreAlike s t action → refused_on_terms terms t action ≡ refused_on_terms terms s action
-alike_refused terms s t action alike = refusal_same terms action _ _ _ _ _ _ _ _ alike.range alike.room alike.profile alike.line
+pub alike_refused : (credits : List Bool) (s t : SliceState) (action : Action) → AreAlike s t action → refused_with credits t action ≡ refused_with credits s action
+alike_refused credits s t action alike = refusal_same credits action _ _ _ _ _ _ _ _ alike.range alike.room alike.profile alike.line
 
-out_of_range : (terms : Terms) (s : SliceState) (action : Action) → is_in_range s action ≡ false → refused_on_terms terms s action ≡ Some OutOfRange
-out_of_range terms s action out = ap (λ (b : Bool). refusal_by terms action b (room_for s action.agent action.step) s.config.profile (standing_of (line s action.line.0))) out
+out_of_range : (credits : List Bool) (s : SliceState) (action : Action) → is_in_range s action ≡ false → refused_with credits s action ≡ Some OutOfRange
+out_of_range credits s action out = ap (λ (b : Bool). refusal_by credits action b (room_for s action.agent action.step) s.config.profile (standing_of (line s action.line.0))) out
 
 -- a line that is in the slice stays through a run of actions on others
 tried_stays : (refusal : Option Refusal) (old : SliceState) (other : Action) (new : SliceState) (l : ℕ) → IsTried refusal old other new → is_line_in_range old l ≡ true → l ≢ other.line.0 → line new l ≡ line old l
@@ -55,9 +53,9 @@ run_stays old (other ∷ others) done new action run away here =
     ∙ tried_stays (refused old other) old other run.0 action.line.0 run.2 here away.0
 
 -- so it refuses an action as before, where there is room for it as before
-pub run_refused : (terms : Terms) (old new : SliceState) (actions : List Action) (done : ℕ) (action : Action) → IsRun old actions done new → AreElsewhere actions action → IsSameRoom old new action
-    → refused_on_terms terms new action ≡ refused_on_terms terms old action
-run_refused terms old new actions done action run away room = go (is_in_range old action) refl
+pub run_refused : (credits : List Bool) (old new : SliceState) (actions : List Action) (done : ℕ) (action : Action) → IsRun old actions done new → AreElsewhere actions action → IsSameRoom old new action
+    → refused_with credits new action ≡ refused_with credits old action
+run_refused credits old new actions done action run away room = go (is_in_range old action) refl
   where
     kept : (new.config ≡ old.config) × (new.index ≡ old.index)
     kept = run_keeps old actions done new run
@@ -67,8 +65,8 @@ run_refused terms old new actions done action run away room = go (is_in_range ol
         ap (λ (c : Sizes). nat_lt action.agent.0 c.agents && (is_line_in_range new action.line.0 && is_step_in_range action.step)) kept.0
         ∙ ap (λ (b : Bool). nat_lt action.agent.0 old.config.agents && (b && is_step_in_range action.step)) (range_stays old new action.line.0 kept.0 kept.1)
 
-    go : (b : Bool) → is_in_range old action ≡ b → refused_on_terms terms new action ≡ refused_on_terms terms old action
+    go : (b : Bool) → is_in_range old action ≡ b → refused_with credits new action ≡ refused_with credits old action
     go true inside =
         let here = both (is_line_in_range old action.line.0) (is_step_in_range action.step) (both (nat_lt action.agent.0 old.config.agents) _ inside).1 in
-        alike_refused terms old new action (record { range = range; line = ap standing_of (run_stays old actions done new action run away here.0); profile = ap (λ (c : Sizes). c.profile) kept.0; room = room })
-    go false out = out_of_range terms new action (range ∙ out) ∙ sym (out_of_range terms old action out)
+        alike_refused credits old new action (record { range = range; line = ap standing_of (run_stays old actions done new action run away here.0); profile = ap (λ (c : Sizes). c.profile) kept.0; room = room })
+    go false out = out_of_range credits new action (range ∙ out) ∙ sym (out_of_range credits old action out)

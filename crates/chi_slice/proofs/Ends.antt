@@ -1,5 +1,5 @@
 -- What an action that was done gives and leaves.
-use Rattle.std.proofs.Common.{◌≡◌, ℕ, List, None, Some, Option, Ok, Err, refl, sym, ◌∙◌, ap, subst, set, get_or}
+use Rattle.std.proofs.Common.{◌≡◌, ℕ, Bool, List, None, Some, Option, Ok, Err, refl, sym, ◌∙◌, ap, subst, set, get_or}
 use Rattle.std.proofs.lemmas.List.{set-get_or}
 use Rattle.chi_flit.specs.declared.numbers.Slot.{Slot}
 use Rattle.chi_flit.specs.declared.action.Action.{Action}
@@ -12,24 +12,23 @@ use Rattle.chi_line.specs.LineState.{LineState}
 use Rattle.chi_line.specs.Moves.{moved_slot, moved_to}
 use Rattle.chi_line.specs.Step.{effect_of}
 use Rattle.chi_slice.specs.declared.places.RequestPlace.{RequestPlace}
-use Rattle.chi_slice.specs.declared.terms.Terms.{Terms}
 use Rattle.chi_slice.specs.Index.{Indexed, moved_in}
 use Rattle.chi_slice.specs.Recorded.{record_by}
-use Rattle.chi_slice.specs.Slice.{Computed, ComputedUnder, KeepsSliceFlits, OtherLinesStay, SliceKept, SliceState, slice_after, line, log_after, no_terms, refused_under}
-use Rattle.chi_slice.specs.Protocol.{HasLastValue, SliceStep, refused_on_terms}
+use Rattle.chi_slice.specs.Slice.{Computed, ComputedUnder, KeepsSliceFlits, OtherLinesStay, SliceKept, SliceState, slice_after, line, log_after, each_credit, refused_under}
+use Rattle.chi_slice.specs.Protocol.{HasLastValue, SliceStep, refused_with}
 use Rattle.chi_slice.specs.Run.{IsDone}
 use Rattle.chi_slice.proofs.Acts.{Allowed, Call, Ready, acted_others, acted_protocol, allowed_here, balanced, changed, entry_fits, kept_acted, load_effect, refused_here}
-use Rattle.chi_slice.proofs.Refused.{on_terms_is}
+use Rattle.chi_slice.proofs.Refused.{with_credits_is}
 use Rattle.chi_slice.proofs.Follows.{followed_by, index_after, indexed_acted}
 
 -- of the slice as it was, and as it is then
-pub record Ended (old : SliceState) (terms : Terms) (action : Action) (outcome : ActionOutcome) (new : SliceState) (places : List (Option RequestPlace)) : Type 0 where
+pub record Ended (old : SliceState) (credits : List Bool) (action : Action) (outcome : ActionOutcome) (new : SliceState) (places : List (Option RequestPlace)) : Type 0 where
   pub kept : SliceKept new
   pub indexed : Indexed new places
-  pub refused : None ≡ refused_on_terms terms old action
+  pub refused : None ≡ refused_with credits old action
   pub protocol : IsDone old action outcome.effect new
   pub loads : HasLastValue old action outcome.effect
-  pub computed : ComputedUnder terms old action (Ok outcome) new
+  pub computed : ComputedUnder credits old action (Ok outcome) new
 
 -- what the outcome says of the line
 pub record Move (action : Action) (at : LineState) (outcome : ActionOutcome) : Type 0 where
@@ -42,10 +41,10 @@ followed places action at at' outcome move same =
     ∙ (ap (moved_in places action.agent.0 action.line (moved_slot at action.agent action.step)) move.to_is
     ∙ ap (λ (l : LineState). followed_by places l action) same)
 
-end_of : {s : SliceState} {terms : Terms} {action : Action} {row : ℕ} {conditions : Conditions} {at at' : LineState} {outcome : ActionOutcome} (places places' : List (Option RequestPlace)) (journal' : Log)
-    → Indexed s places → Ready s terms action row conditions at → Call conditions action at at' outcome.effect → Move action at outcome → places' ≡ moved_in places action.agent.0 action.line outcome.slot outcome.to
-    → journal' ≡ log_after s.journal (record_by action outcome.effect) → Ended s terms action outcome (record s { lines = set s.lines row at'; journal = journal' }) places'
-end_of {s} {terms} {action} {row} {conditions} {at} {at'} {outcome} places places' journal' i r call move follows noted =
+end_of : {s : SliceState} {credits : List Bool} {action : Action} {row : ℕ} {conditions : Conditions} {at at' : LineState} {outcome : ActionOutcome} (places places' : List (Option RequestPlace)) (journal' : Log)
+    → Indexed s places → Ready s credits action row conditions at → Call conditions action at at' outcome.effect → Move action at outcome → places' ≡ moved_in places action.agent.0 action.line outcome.slot outcome.to
+    → journal' ≡ log_after s.journal (record_by action outcome.effect) → Ended s credits action outcome (record s { lines = set s.lines row at'; journal = journal' }) places'
+end_of {s} {credits} {action} {row} {conditions} {at} {at'} {outcome} places places' journal' i r call move follows noted =
     let may : Allowed s action = allowed_here r call.refusal in
     let left : SliceState = record s { lines = set s.lines row at'; journal = journal' } in
     let new : left ≡ slice_after s action = changed journal' r call noted in
@@ -54,7 +53,7 @@ end_of {s} {terms} {action} {row} {conditions} {at} {at'} {outcome} places place
     record {
       kept = subst SliceKept (sym new) (kept_acted s action r.kept may);
       indexed = subst (λ (v : SliceState). Indexed v places') (sym new) (subst (Indexed (slice_after s action)) (sym places_are) (indexed_acted s places action r.kept i may));
-      refused = call.refusal ∙ (refused_here r ∙ on_terms_is terms s action);
+      refused = call.refusal ∙ (refused_here r ∙ with_credits_is credits s action);
       protocol = record {
         step = subst (λ (e : Effect). SliceStep s action e left) (sym effect_is) (subst (λ (v : SliceState). SliceStep s action (effect_of (line s action.line.0) action) v) (sym new) (acted_protocol s action r.kept may (balanced r call)));
         others = subst (λ (v : SliceState). OtherLinesStay s v action.line.0) (sym new) (acted_others s action r.kept may);
@@ -73,11 +72,11 @@ end_of {s} {terms} {action} {row} {conditions} {at} {at'} {outcome} places place
       };
     }
 
-pub ended : {s : SliceState} {row : ℕ} {conditions : Conditions} {at at' : LineState} {outcome : ActionOutcome} (now : SliceState) (terms : Terms) (action : Action) (places places' : List (Option RequestPlace)) (journal' : Log)
-    → s ≡ now → Indexed s places → Ready s terms action row conditions at → Call conditions action at at' outcome.effect → Move action at outcome → places' ≡ moved_in places action.agent.0 action.line outcome.slot outcome.to
-    → journal' ≡ log_after s.journal (record_by action outcome.effect) → Ended now terms action outcome (record s { lines = set s.lines row at'; journal = journal' }) places'
-ended {s} {row} {conditions} {at} {at'} {outcome} now terms action places places' journal' same i r call move follows noted =
-    subst (λ (v : SliceState). Ended v terms action outcome (record s { lines = set s.lines row at'; journal = journal' }) places') same (end_of places places' journal' i r call move follows noted)
+pub ended : {s : SliceState} {row : ℕ} {conditions : Conditions} {at at' : LineState} {outcome : ActionOutcome} (now : SliceState) (credits : List Bool) (action : Action) (places places' : List (Option RequestPlace)) (journal' : Log)
+    → s ≡ now → Indexed s places → Ready s credits action row conditions at → Call conditions action at at' outcome.effect → Move action at outcome → places' ≡ moved_in places action.agent.0 action.line outcome.slot outcome.to
+    → journal' ≡ log_after s.journal (record_by action outcome.effect) → Ended now credits action outcome (record s { lines = set s.lines row at'; journal = journal' }) places'
+ended {s} {row} {conditions} {at} {at'} {outcome} now credits action places places' journal' same i r call move follows noted =
+    subst (λ (v : SliceState). Ended v credits action outcome (record s { lines = set s.lines row at'; journal = journal' }) places') same (end_of places places' journal' i r call move follows noted)
 
 -- a line that is put back as it was leaves the slice as it was
 pub put_back : {at : LineState} (now s : SliceState) (row : ℕ) (new : LineState) → s ≡ now → at ≡ get_or s.lines row at → new ≡ at → record s { lines = set s.lines row new } ≡ now
@@ -86,12 +85,12 @@ put_back {at} now s row new same read stays =
     ∙ (ap (λ (lines : List LineState). record s { lines = lines }) (set-get_or s.lines row at) ∙ same)
 
 -- a call that is refused says why
-pub err_computed : (terms : Terms) (old new : SliceState) (action : Action) (refusal : Refusal) → Some refusal ≡ refused_under terms old action → ComputedUnder terms old action (Err refusal) new
-err_computed terms old new action refusal is = record { refusal = is; effect = tt; slot = tt; to = tt; journal = tt; flits = tt; after = tt }
+pub err_computed : (credits : List Bool) (old new : SliceState) (action : Action) (refusal : Refusal) → Some refusal ≡ refused_under credits old action → ComputedUnder credits old action (Err refusal) new
+err_computed credits old new action refusal is = record { refusal = is; effect = tt; slot = tt; to = tt; journal = tt; flits = tt; after = tt }
 
--- what a call on no terms says is what the slice alone says
-pub alone_ok : (old new : SliceState) (action : Action) (outcome : ActionOutcome) → ComputedUnder no_terms old action (Ok outcome) new → Computed old action (Ok outcome.effect) new
+-- what a call with a credit of each type says is what the slice alone says
+pub alone_ok : (old new : SliceState) (action : Action) (outcome : ActionOutcome) → ComputedUnder each_credit old action (Ok outcome) new → Computed old action (Ok outcome.effect) new
 alone_ok old new action outcome by = record { refusal = by.refusal; effect = by.effect; journal = by.journal; flits = by.flits; after = by.after }
 
-pub alone_err : (old new : SliceState) (action : Action) (refusal : Refusal) → ComputedUnder no_terms old action (Err refusal) new → Computed old action (Err refusal) new
+pub alone_err : (old new : SliceState) (action : Action) (refusal : Refusal) → ComputedUnder each_credit old action (Err refusal) new → Computed old action (Err refusal) new
 alone_err old new action refusal by = record { refusal = by.refusal; effect = by.effect; journal = by.journal; flits = by.flits; after = by.after }

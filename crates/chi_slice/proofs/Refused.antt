@@ -1,5 +1,5 @@
 -- Why a slice alone refuses an action is what the protocol says, and an action is enabled exactly where nothing does.
-use Rattle.std.proofs.Common.{◌≡◌, List, Bool, true, false, not, ◌||◌, Option, Some, None, refl, sym, ◌∙◌, ap, subst, replicate, if◌then◌else◌, arith, slice_index_or}
+use Rattle.std.proofs.Common.{◌≡◌, List, Bool, true, false, not, Option, Some, None, refl, sym, ◌∙◌, ap, subst, replicate, if◌then◌else◌, arith, slice_index_or}
 use Rattle.std.proofs.Math.Path.{fun_ext}
 use Rattle.std.specs.List.{list_any}
 use Rattle.std.specs.Option.{option_or}
@@ -26,9 +26,8 @@ use Rattle.chi_line.specs.RefusalRows.{HasRoom, Room, is_of_actions, refusal_row
 use Rattle.chi_line.proofs.After.{issue_allowed, neither}
 use Rattle.chi_line.proofs.Enabled.{IsFree, enabled, room_in}
 use Rattle.chi_line.proofs.RefusalRows.{refusals_are, uses_are}
-use Rattle.chi_slice.specs.Protocol.{IsEnabled, SliceStep, lacks_credit, refused, refused_on_terms, room_for, uses_own_slot}
-use Rattle.chi_slice.specs.declared.terms.Terms.{Terms}
-use Rattle.chi_slice.specs.Slice.{SliceState, action_refusal, conditions_under, is_in_range, is_slot_used, line, no_terms, refused_under}
+use Rattle.chi_slice.specs.Protocol.{IsEnabled, SliceStep, lacks_credit, refused, refused_with, room_for, uses_own_slot}
+use Rattle.chi_slice.specs.Slice.{SliceState, action_refusal, conditions_under, is_in_range, is_slot_used, line, each_credit, refused_under}
 use Rattle.chi_slice.proofs.Acts.{Allowed, allowed, not_full}
 use Rattle.chi_slice.proofs.Refusing.{all_credits as credited}
 
@@ -46,11 +45,11 @@ refused_by false x y is = refl
 
 pub refused_is : (s : SliceState) (action : Action) → action_refusal s action ≡ refused s action
 refused_is s action = refused_by (is_in_range s action) _ _
-    (refusals_are (conditions_under no_terms s action) (line s action.line.0) action.agent action.step all_credits
+    (refusals_are (conditions_under each_credit s action) (line s action.line.0) action.agent action.step all_credits
     ∙ ap (λ (used : Bool). refusal_row (record { journal_full = (room_for s action.agent action.step).journal_full; slot_used = used }) (standing_of (line s action.line.0)) action.agent action.step)
     (used_is s action.agent action.step))
 
--- on the terms of a requester: the row's refusal, and then that of a Resend without a credit
+-- with the credits of a requester: the row's refusal, and then that of a Resend without a credit
 or_none : (refusal : Option Refusal) → refusal ≡ option_or refusal None
 or_none None = refl
 or_none (Some refusal) = refl
@@ -80,11 +79,15 @@ rows_are c l n steps.Resend =
     ∙ ap (option_or (refusal_row (room_in c) (standing_of l) n steps.Resend)) (lacking c.credits c.profile (rn_of l n.0).pending)
 rows_are c l n other = refusals_are (with_credits c) l n other all_credits ∙ or_none (refusal_row (room_in c) (standing_of l) n other)
 
-pub on_terms_is : (terms : Terms) (s : SliceState) (action : Action) → refused_under terms s action ≡ refused_on_terms terms s action
-on_terms_is terms s action = refused_by (is_in_range s action) _ _
-    (rows_are (conditions_under terms s action) (line s action.line.0) action.agent action.step
-    ∙ ap (λ (used : Bool). option_or (refusal_row (record { journal_full = is_full s.journal; slot_used = terms.slot_taken || used }) (standing_of (line s action.line.0)) action.agent action.step)
-    (refused_if (lacks_credit terms.credits s.config.profile (rn_of (line s action.line.0) action.agent.0).pending action.step) refusals.NoCredit None))
+refused_or : (b : Bool) (x row credit : Option Refusal) → x ≡ option_or row credit → (if b then x else Some refusals.OutOfRange) ≡ option_or (refused_if (not b) refusals.OutOfRange row) credit
+refused_or true x row credit is = is
+refused_or false x row credit is = refl
+
+pub with_credits_is : (credits : List Bool) (s : SliceState) (action : Action) → refused_under credits s action ≡ refused_with credits s action
+with_credits_is credits s action = refused_or (is_in_range s action) _ _ _
+    (rows_are (conditions_under credits s action) (line s action.line.0) action.agent action.step
+    ∙ ap (λ (used : Bool). option_or (refusal_row (record { journal_full = is_full s.journal; slot_used = used }) (standing_of (line s action.line.0)) action.agent action.step)
+    (refused_if (lacks_credit credits s.config.profile (rn_of (line s action.line.0) action.agent.0).pending action.step) refusals.NoCredit None))
     (used_is s action.agent action.step))
 
 -- no action is refused with 8, 11 or 12
@@ -138,7 +141,7 @@ room_here s n step c is room = subst (λ (r : Room). HasRoom r step) (sym is)
 
 pub enabled_done : (s : SliceState) (action : Action) → IsEnabled s action → action_refusal s action ≡ None
 enabled_done s action e =
-    let c : Conditions = conditions_under no_terms s action in
+    let c : Conditions = conditions_under each_credit s action in
     let free : IsFree c action.step = record { room = room_here s action.agent action.step c refl e.room; credit = all_credits } in
     ap (λ (b : Bool). if b then line_refusal c (line s action.line.0) action else Some refusals.OutOfRange) e.inside
     ∙ enabled c (line s action.line.0) action.agent action.line action.step e.row.0 e.row.1 e.row.2 free e.row.3
@@ -153,7 +156,7 @@ room_left c s n other may = tt
 pub done_enabled : (s new : SliceState) (action : Action) (effect : Effect) → action_refusal s action ≡ None → SliceStep s action effect new → IsEnabled s action
 done_enabled s new action effect none step =
     let may : Allowed s action = allowed s action none in
-    let c : Conditions = conditions_under no_terms s action in
+    let c : Conditions = conditions_under each_credit s action in
     record {
       inside = may.inside;
       room = subst (λ (used : Bool). HasRoom (record { journal_full = c.journal_full; slot_used = used }) action.step) (used_is s action.agent action.step)

@@ -1,6 +1,6 @@
 -- An action on a slice by the protocol alone: what refuses it, and what it does (docs/PROTOCOL.md, "The actions",
 -- "Refusals" and "One line").
-use Rattle.std.specs.Prelude.{◌≡◌, ℕ, List, [], Bool, true, false, ◌||◌, not, Option, Some, None, get_or}
+use Rattle.std.specs.Prelude.{◌≡◌, ℕ, List, [], Bool, true, false, not, Option, Some, None, get_or}
 use Rattle.std.specs.List.{list_any, slice_index_or}
 use Rattle.std.specs.Option.{option_or}
 use Rattle.chi_flit.specs.declared.numbers.Agent.{Agent}
@@ -23,7 +23,6 @@ use Rattle.chi_line.specs.Meaning.{standing_of}
 use Rattle.chi_line.specs.Protocol.{LineStep, Standing, opening}
 use Rattle.chi_line.specs.RefusalRows.{HasRoom, Room, refusal_row, refused_if, uses_slot}
 use Rattle.chi_rnline.specs.declared.pending.Pending.{Pending}
-use Rattle.chi_slice.specs.declared.terms.Terms.{Terms}
 use Rattle.chi_slice.specs.Slice.{SliceState, is_in_range, is_line_in_range, last_of, line, log_after}
 
 -- a slice in the opening state: each of its lines is, and its journal has no record
@@ -52,11 +51,8 @@ refused s action =
     refused_if (not (is_in_range s action)) OutOfRange
     (refusal_row (room_for s action.agent action.step) (standing_of (line s action.line.0)) action.agent action.step)
 
--- ON THE TERMS OF A REQUESTER: its slot may be taken elsewhere, and a Resend is refused 12 without a credit of the
--- type of the request that is pending, where nothing of its row refuses it
-abbrev pub room_under : Terms → Room → Room
-room_under terms room = record { journal_full = room.journal_full; slot_used = terms.slot_taken || room.slot_used }
-
+-- WITH THE CREDITS OF A REQUESTER: a Resend is refused 12 without a credit of the type of the request that is pending,
+-- where nothing else refuses it
 abbrev pub lacks_credit_of : List Bool → Profile → Option Pending → Bool
 lacks_credit_of credits profile None = false
 lacks_credit_of credits profile (Some p) = not (slice_index_or credits (credit_number (credit_type_of profile p.kind)) false)
@@ -65,11 +61,10 @@ abbrev pub lacks_credit : List Bool → Profile → Option Pending → Step → 
 lacks_credit credits profile pending steps.Resend = lacks_credit_of credits profile pending
 lacks_credit credits profile pending other = false
 
-abbrev pub refused_on_terms : Terms → SliceState → Action → Option Refusal
-refused_on_terms terms s action =
-    refused_if (not (is_in_range s action)) OutOfRange
-    (option_or (refusal_row (room_under terms (room_for s action.agent action.step)) (standing_of (line s action.line.0)) action.agent action.step)
-    (refused_if (lacks_credit terms.credits s.config.profile ((standing_of (line s action.line.0)).pending action.agent) action.step) NoCredit None))
+abbrev pub refused_with : List Bool → SliceState → Action → Option Refusal
+refused_with credits s action =
+    option_or (refused s action)
+    (refused_if (lacks_credit credits s.config.profile ((standing_of (line s action.line.0)).pending action.agent) action.step) NoCredit None)
 
 -- a load that is done has the value last stored to its word
 abbrev pub HasLastValue : SliceState → Action → Effect → Type 0

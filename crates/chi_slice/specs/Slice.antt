@@ -1,7 +1,7 @@
 -- A slice: the lines l with l mod slices = index, each in a row (docs/PROTOCOL.md, "One line" and
 -- "The actions").
 use Rattle.std.specs.Prelude.{◌≡◌, ◌≢◌, ℕ, ◌+◌, ◌-◌, ◌/◌, ◌%◌, ◌<◌, List, [], ◌∷◌, Bool, true}
-use Rattle.std.specs.Prelude.{Result, IfOk, OnOk, false, ◌&&◌, ◌||◌, ◌==◌, nat_lt, Option, Some, None}
+use Rattle.std.specs.Prelude.{Result, IfOk, OnOk, false, ◌&&◌, ◌==◌, nat_lt, Option, Some, None}
 use Rattle.std.specs.Prelude.{length, replicate, slice_set, if◌then◌else◌}
 use Rattle.std.specs.List.{list_any, slice_index_or}
 use Rattle.chi_flit.specs.declared.numbers.Slot.{Slot}
@@ -14,7 +14,6 @@ use Rattle.chi_flit.specs.Refusal.{refusal_of}
 use Rattle.chi_journal.specs.declared.record.Record.{Record}
 use Rattle.chi_journal.specs.Journal.{IsLegalLog, Log, LogKept, line_words, log_with, is_full, opening_log}
 use Rattle.chi_flit.specs.Config.{Sizes, are_in_limits}
-use Rattle.chi_slice.specs.declared.terms.Terms.{Terms}
 use Rattle.chi_line.specs.LineState.{LineState, opening_line}
 use Rattle.chi_line.specs.declared.act.Conditions.{Conditions}
 use Rattle.chi_line.specs.declared.position.ActionOutcome.{ActionOutcome}
@@ -85,31 +84,31 @@ uses_named s n (Some slot) = uses s n slot
 abbrev pub is_slot_used : SliceState → ℕ → Step → Bool
 is_slot_used s n step = uses_named s n (issued_slot step)
 
--- the terms of a slice alone: no slot is taken elsewhere, and there is a credit of each type
-abbrev pub no_terms : Terms
-no_terms = record { slot_taken = false; credits = replicate 4 true }
+-- a credit of each type
+abbrev pub each_credit : List Bool
+each_credit = replicate 4 true
 
 -- why an action is refused for its numbers alone
 abbrev pub range_refusal : SliceState → Action → Option Refusal
 range_refusal s action = if is_in_range s action then None else Some OutOfRange
 
--- what an action has to know of the slice beside its line, on these terms
-abbrev pub conditions_under : Terms → SliceState → Action → Conditions
-conditions_under terms s action = record {
-  slot_used = terms.slot_taken || is_slot_used s action.agent.0 action.step;
+-- what an action has to know of the slice beside its line, with these credits
+abbrev pub conditions_under : List Bool → SliceState → Action → Conditions
+conditions_under credits s action = record {
+  slot_used = is_slot_used s action.agent.0 action.step;
   journal_full = is_full s.journal;
-  credits = terms.credits;
+  credits = credits;
   profile = s.config.profile;
 }
 
--- why an action is refused on these terms: 10, then the numbers of its row in the table of the actions
-abbrev pub refused_under : Terms → SliceState → Action → Option Refusal
-refused_under terms s action =
-    if is_in_range s action then line_refusal (conditions_under terms s action) (line s action.line.0) action else Some OutOfRange
+-- why an action is refused with these credits: 10, then the numbers of its row in the table of the actions
+abbrev pub refused_under : List Bool → SliceState → Action → Option Refusal
+refused_under credits s action =
+    if is_in_range s action then line_refusal (conditions_under credits s action) (line s action.line.0) action else Some OutOfRange
 
 -- why an action is refused by the slice alone
 abbrev pub action_refusal : SliceState → Action → Option Refusal
-action_refusal s action = refused_under no_terms s action
+action_refusal s action = refused_under each_credit s action
 
 -- the slice with another line in a row
 abbrev pub with_line : SliceState → ℕ → LineState → SliceState
@@ -159,9 +158,9 @@ pub record Computed (old : SliceState) (action : Action) (result : Result Effect
   pub flits : OnOk result (KeepsSliceFlits old action new)
   pub after : OnOk result (new ≡ slice_after old action)
 
--- the same on the terms of a requester, with the slot of the request that the action moves, and where to
-pub record ComputedUnder (terms : Terms) (old : SliceState) (action : Action) (result : Result ActionOutcome Refusal) (new : SliceState) : Type 0 where
-  pub refusal : refusal_of result ≡ refused_under terms old action
+-- the same with the credits of a requester, and the slot of the request that the action moves, and where to
+pub record ComputedUnder (credits : List Bool) (old : SliceState) (action : Action) (result : Result ActionOutcome Refusal) (new : SliceState) : Type 0 where
+  pub refusal : refusal_of result ≡ refused_under credits old action
   pub effect : IfOk result (λ outcome. outcome.effect ≡ effect_of (line old action.line.0) action)
   pub slot : IfOk result (λ outcome. outcome.slot ≡ moved_by old action)
   pub to : IfOk result (λ outcome. outcome.to ≡ moved_to (line old action.line.0) action.agent action.step)

@@ -1,25 +1,24 @@
 //! A law of runs: what lets one line refuse another's action.
 
-ghost use Rattle.std.specs.Prelude.{◌≡◌, ℕ, List, true};
+ghost use Rattle.std.specs.Prelude.{◌≡◌, ℕ, Bool, List, true};
 ghost use Rattle.chi_flit.specs.declared.action.Action.{Action};
-ghost use Rattle.chi_slice.specs.declared.terms.Terms.{Terms};
 ghost use Rattle.chi_flit.specs.declared.action.Effect.{Effect};
-ghost use Rattle.chi_slice.specs.Protocol.{LeavesOne, SliceStep, refused_on_terms};
+ghost use Rattle.chi_slice.specs.Protocol.{LeavesOne, SliceStep, refused_with};
 ghost use Rattle.chi_slice.specs.Slice.{SliceKept, SliceState, is_line_in_range};
 ghost use Rattle.chi_slice.specs.Run.{AreAlike, AreElsewhere, IsRun, IsSameRoom};
 
-/// Only the journal's limit and a slot in use let one line refuse another's action: on any terms, slices
+/// Only the journal's limit and a slot in use let one line refuse another's action: with any credits, slices
 /// that are alike for an action, its line as the protocol has it, refuse it alike; and a run of actions on
 /// other lines leaves its refusal, where the journal is full, and the slot that it names in use, as before the
 /// run.
 /// Source: `docs/PROTOCOL.md`, "The actions".
 pub fn only_room_and_slots_join_lines()
-    ensures alike { (terms : Terms) (s t : SliceState) (action : Action) → AreAlike s t action
-        → refused_on_terms terms t action ≡ refused_on_terms terms s action }
-    ensures run { (terms : Terms) (old new : SliceState) (actions : List Action) (done : ℕ)
+    ensures alike { (credits : List Bool) (s t : SliceState) (action : Action) → AreAlike s t action
+        → refused_with credits t action ≡ refused_with credits s action }
+    ensures run { (credits : List Bool) (old new : SliceState) (actions : List Action) (done : ℕ)
         (action : Action) → IsRun old actions done new → AreElsewhere actions action
         → IsSameRoom old new action
-        → refused_on_terms terms new action ≡ refused_on_terms terms old action }
+        → refused_with credits new action ≡ refused_with credits old action }
 {}
 
 /// By the protocol an action leaves one slice of what its line was: one effect, one journal, and one line up

@@ -9,7 +9,6 @@ mod loading;
 mod places;
 mod records;
 mod slice;
-mod terms;
 mod verdict;
 
 pub use agent_line::AgentLine;
@@ -23,6 +22,5 @@ pub use chi_wires::{Cells, cells_of};
 pub use laws::{an_action_leaves_one_slice, only_room_and_slots_join_lines};
 pub use places::RequestPlace;
 pub use records::is_step_in_range;
-pub use slice::Slice;
-pub use terms::Terms;
+pub use slice::{EACH_CREDIT, Slice};
 pub use verdict::check;

@@ -6,13 +6,12 @@ ghost use Rattle.chi_flit.specs.declared.numbers.Slot.{Slot};
 ghost use Rattle.chi_line.specs.LineState.{opening_line};
 ghost use Rattle.chi_line.specs.RefusalRows.{is_of_actions};
 ghost use Rattle.chi_line.specs.Step.{is_step_in_range};
-ghost use Rattle.chi_slice.specs.declared.terms.Terms.{Terms};
 ghost use Rattle.chi_flit.specs.Config.{are_in_limits};
 ghost use Rattle.chi_slice.specs.Index.{SlotsInRange};
 ghost use Rattle.chi_slice.specs.Loading.{IsLoadable};
-ghost use Rattle.chi_slice.specs.Protocol.{HasLastValue, IsEnabled, IsOpening, WouldComplete, refused, refused_on_terms};
+ghost use Rattle.chi_slice.specs.Protocol.{HasLastValue, IsEnabled, IsOpening, WouldComplete, refused, refused_with};
 ghost use Rattle.chi_slice.specs.Run.{IsDone, IsRun};
-ghost use Rattle.chi_slice.specs.Slice.{Computed, ComputedUnder, IsRowOf, SliceKept, conditions_under, flits_refusal, is_in_range, is_slot_used, no_terms, opening_slice, range_refusal, action_refusal, refused_under, row_count, row_of_line, run_after, slice_with, uses};
+ghost use Rattle.chi_slice.specs.Slice.{Computed, ComputedUnder, IsRowOf, SliceKept, conditions_under, flits_refusal, is_in_range, is_slot_used, each_credit, opening_slice, range_refusal, action_refusal, refused_under, row_count, row_of_line, run_after, slice_with, uses};
 
 mod agreement;
 mod looks;
@@ -20,7 +19,6 @@ mod looks;
 use crate::loading::{are_parts_kept, places_in};
 use crate::places::RequestPlaces;
 use crate::records::{is_step_in_range, note};
-use crate::terms::Terms;
 use chi_flit::{Action, Agent, Config, Effect, Line, NoMemory, Refusal, Slot, Step};
 use chi_journal::Journal;
 use chi_line::{ActionOutcome, Conditions};
@@ -50,6 +48,10 @@ impl<A: Allocator> Model for Slice<A> {
 
     ghost invariant = { λ s. IsSliceIndexed s.config s.index s.lines.items s.journal s.places };
 }
+
+/// A credit of each type, by the type's number.
+/// Source: `docs/PROTOCOL.md`, "The actions".
+pub const EACH_CREDIT: [bool; 4] = [true; 4];
 
 /// Where an action is done: the row of its line, and what it needs to know of the slice beside the line.
 #[derive(Clone, Copy)]
@@ -226,32 +228,32 @@ impl<A: Allocator> Slice<A> {
         }
     }
 
-    /// What an action needs to know of the slice beside its line, on these terms.
-    fn conditions(&self, action: Action, terms: Terms) -> Conditions
+    /// What an action needs to know of the slice beside its line, with these credits.
+    fn conditions(&self, action: Action, credits: [bool; 4]) -> Conditions
         requires agent { action.agent.0 < 8 }
         requires step { is_step_in_range action.step ≡ true }
-        ensures { result ≡ conditions_under terms self.now action }
+        ensures { result ≡ conditions_under credits self.now action }
     {
         Conditions {
-            slot_used: terms.slot_taken || self.is_slot_used(action.agent, action.step),
+            slot_used: self.is_slot_used(action.agent, action.step),
             journal_full: self.journal.is_full(),
-            credits: terms.credits,
+            credits,
             profile: self.config.profile(),
         }
     }
 
     /// Where an action is done. Refused 10 (OutOfRange) exactly where one of its numbers is outside its
     /// range, or its line in another slice.
-    fn action_row(&self, action: Action, terms: Terms) -> Result<ActionRow, Refusal>
+    fn action_row(&self, action: Action, credits: [bool; 4]) -> Result<ActionRow, Refusal>
         ensures refusal { refusal_of result ≡ range_refusal self.now action }
         ensures row { IfOk result (λ found. found.row ≡ row_of_line self.now action.line.0) }
         ensures conditions { IfOk result (λ found. found.conditions
-            ≡ conditions_under terms self.now action) }
+            ≡ conditions_under credits self.now action) }
     {
         match self.row_in_range(action) {
             Some(row) => Ok(ActionRow {
                 row: usize::from(row),
-                conditions: self.conditions(action, terms),
+                conditions: self.conditions(action, credits),
             }),
             None => Err(Refusal::OutOfRange),
         }
@@ -276,28 +278,29 @@ impl<A: Allocator> Slice<A> {
         ensures computed { Computed self.old action result self.new }
         ensures err { OnErr result (self.new ≡ self.old) }
     {
-        let outcome = self.act_under(action, Terms::NONE)?;
+        let outcome = self.act_with(action, EACH_CREDIT)?;
         Ok(outcome.effect)
     }
 
-    /// Does one action on the terms of its requester, as `act` does it.
+    /// Does one action with the credits of its requester, as `act` does it: by the type's number, whether there is
+    /// one for a Resend.
     ///
-    /// Refused as by `act`, and also 3 (Pending) an Issue whose slot is taken elsewhere, and 12 (NoCredit)
-    /// a Resend without a credit of its request's type; nothing changes then.
+    /// Refused as by `act`, and also 12 (NoCredit) a Resend without a credit of its request's type; nothing changes
+    /// then.
     ///
     /// Of the representation, for callers that compute with it: `computed`.
     /// Source: `docs/PROTOCOL.md`, "The actions" and "A requester and its calls".
     #[inline(always)]
-    pub fn act_under(&mut self, action: Action, terms: Terms) -> Result<ActionOutcome, Refusal>
-        ensures refused { refusal_of result ≡ refused_on_terms terms self.old action }
+    pub fn act_with(&mut self, action: Action, credits: [bool; 4]) -> Result<ActionOutcome, Refusal>
+        ensures refused { refusal_of result ≡ refused_with credits self.old action }
         ensures protocol { IfOk result
             (λ outcome. IsDone self.old action outcome.effect self.new) }
         ensures loads { IfOk result (λ outcome. HasLastValue self.old action outcome.effect) }
-        ensures computed { ComputedUnder terms self.old action result self.new }
+        ensures computed { ComputedUnder credits self.old action result self.new }
         ensures err { OnErr result (self.new ≡ self.old) }
     {
         match self.row_in_range(action) {
-            Some(row) => self.act_in(row, action, terms),
+            Some(row) => self.act_in(row, action, credits),
             None => Err(Refusal::OutOfRange),
         }
     }
@@ -321,10 +324,10 @@ impl<A: Allocator> Slice<A> {
         }
     }
 
-    /// Does one action in the row of its line on the terms of its requester, as `act_under` does it, and asks
+    /// Does one action in the row of its line with the credits of its requester, as `act_with` does it, and asks
     /// for neither the agent nor the line again.
     ///
-    /// Refused as by `act_under`, but never 10; nothing changes then. Conditions: the row is the one that `row_for`
+    /// Refused as by `act_with`, but never 10; nothing changes then. Conditions: the row is the one that `row_for`
     /// of this slice answers, and the step's numbers are in their ranges.
     ///
     /// Of the representation, for callers that compute with it: `computed`.
@@ -334,18 +337,18 @@ impl<A: Allocator> Slice<A> {
         &mut self,
         row: u8,
         action: Action,
-        terms: Terms,
+        credits: [bool; 4],
     ) -> Result<ActionOutcome, Refusal>
         requires row { row ≡ row_of_line self.old action.line.0 }
         requires inside { is_in_range self.old action ≡ true }
-        ensures refused { refusal_of result ≡ refused_on_terms terms self.old action }
+        ensures refused { refusal_of result ≡ refused_with credits self.old action }
         ensures protocol { IfOk result
             (λ outcome. IsDone self.old action outcome.effect self.new) }
         ensures loads { IfOk result (λ outcome. HasLastValue self.old action outcome.effect) }
-        ensures computed { ComputedUnder terms self.old action result self.new }
+        ensures computed { ComputedUnder credits self.old action result self.new }
         ensures err { OnErr result (self.new ≡ self.old) }
     {
-        let conditions = self.conditions(action, terms);
+        let conditions = self.conditions(action, credits);
         let line = &mut self.lines[usize::from(row)];
         let outcome = line.act(conditions, action)?;
         self.places
@@ -372,18 +375,18 @@ impl<A: Allocator> Slice<A> {
         done
     }
 
-    /// Why `act_under` would refuse the action on these terms; `None` where it would be done. Nothing is
+    /// Why `act_with` would refuse the action with these credits; `None` where it would be done. Nothing is
     /// done.
     ///
     /// Of the representation, for callers that compute with it: `refusal`, `alone`, `allowed`.
     /// Source: `docs/PROTOCOL.md`, "The actions" and "A requester and its calls".
-    pub fn refusal(&self, action: Action, terms: Terms) -> Option<Refusal>
-        ensures refused { result ≡ refused_on_terms terms self.now action }
-        ensures refusal { result ≡ refused_under terms self.now action }
-        ensures alone { terms ≡ no_terms → result ≡ action_refusal self.now action }
+    pub fn refusal(&self, action: Action, credits: [bool; 4]) -> Option<Refusal>
+        ensures refused { result ≡ refused_with credits self.now action }
+        ensures refusal { result ≡ refused_under credits self.now action }
+        ensures alone { credits ≡ each_credit → result ≡ action_refusal self.now action }
         ensures allowed { result ≡ None → action_refusal self.now action ≡ None }
     {
-        match self.action_row(action, terms) {
+        match self.action_row(action, credits) {
             Ok(found) => self.lines[found.row].refusal(found.conditions, action),
             Err(refusal) => Some(refusal),
         }

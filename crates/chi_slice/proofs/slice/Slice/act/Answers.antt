@@ -34,13 +34,13 @@ returns-clause-refused g c =
 pub returns-clause-enabled : goal.returns-clause-enabled
 returns-clause-enabled g c =
     let plain : None ≡ action_refusal c.args.self.now c.args.action = search (rules, c.in_ok-outcome.ensures.computed.refusal) in
-    let step : SliceStep c.args.self.now c.args.action c.in_ok-outcome.outcome.effect c.act_under.new.self = search (rules, c.in_ok-outcome.ensures.protocol.step) in
-    (λ e. refl, λ none. done_enabled c.args.self.now c.act_under.new.self c.args.action c.in_ok-outcome.outcome.effect (sym plain) step)
+    let step : SliceStep c.args.self.now c.args.action c.in_ok-outcome.outcome.effect c.act_with.new.self = search (rules, c.in_ok-outcome.ensures.protocol.step) in
+    (λ e. refl, λ none. done_enabled c.args.self.now c.act_with.new.self c.args.action c.in_ok-outcome.outcome.effect (sym plain) step)
 
 pub returns-clause-computed : goal.returns-clause-computed
-returns-clause-computed g c = alone_ok c.args.self.now c.act_under.new.self c.args.action c.in_ok-outcome.outcome (search (rules, c.in_ok-outcome.ensures.computed))
+returns-clause-computed g c = alone_ok c.args.self.now c.act_with.new.self c.args.action c.in_ok-outcome.outcome (search (rules, c.in_ok-outcome.ensures.computed))
 
 pub returns-in_err-outcome-clause-computed : goal.returns-in_err-outcome-clause-computed
 returns-in_err-outcome-clause-computed g c =
-    let by : Computed c.args.self.now c.args.action (Err c.in_err-outcome.field-0.0) c.act_under.new.self = alone_err c.args.self.now c.act_under.new.self c.args.action c.in_err-outcome.field-0.0 (search (rules, c.in_err-outcome.ensures.computed)) in
+    let by : Computed c.args.self.now c.args.action (Err c.in_err-outcome.field-0.0) c.act_with.new.self = alone_err c.args.self.now c.act_with.new.self c.args.action c.in_err-outcome.field-0.0 (search (rules, c.in_err-outcome.ensures.computed)) in
     search (rules, by)
