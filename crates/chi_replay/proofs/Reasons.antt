@@ -1,5 +1,5 @@
 -- Why the table of the commands refuses is why the node does.
-use Rattle.std.proofs.Common.{◌≡◌, ℕ, ◌<◌, ◌≤◌, Bool, true, false, nat_lt, not, Option, Some, None, if◌then◌else◌, refl, ap, subst, arith}
+use Rattle.std.proofs.Common.{◌≡◌, ℕ, ◌<◌, ◌≤◌, Bool, true, false, nat_lt, not, Option, Some, None, if◌then◌else◌, refl, sym, ap, subst, arith}
 use Rattle.std.specs.Option.{option_or}
 use Rattle.std.proofs.lemmas.Bool.{ltb-true}
 use Rattle.chi_flit.specs.declared.numbers.Agent.{Agent}
@@ -10,12 +10,13 @@ use Rattle.chi_flit.specs.declared.refusal.Refusal.{Refusal}
 use Rattle.chi_flit.specs.declared.refusal.Refusal.TheVariants.{OutOfRange}
 use Rattle.chi_node.specs.Words.{low}
 use Rattle.chi_slice.specs.Words.{Sizes}
+use Rattle.chi_slice.specs.Protocol.{refused}
 use Rattle.chi_slice.specs.Slice.{SliceState, is_in_range}
 use Rattle.chi_slice.proofs.Rows.{both}
 use Rattle.chi_node.specs.Requester.{no_requester}
-use Rattle.chi_node.specs.Outstanding.{Outstanding, give_back_refusal, see_refusal, step_refusal, tend_refusal, typed_refusal}
+use Rattle.chi_node.specs.Outstanding.{Outstanding, give_back_refusal, outstanding_of, see_refusal, step_refusal, tend_refusal, typed_refusal}
 use Rattle.chi_node.proofs.Openings.{few_entries}
-use Rattle.chi_node.proofs.RowCalls.{admission}
+use Rattle.chi_node.proofs.RowCalls.{admission, allowed_with}
 use Rattle.chi_node.specs.Home.{slice_of}
 use Rattle.chi_node.specs.System.{IsSystem, SystemState, arrive_refusal, give_back_refusal_in, requester_of, system_step_refusal, tend_refusal_in}
 use Rattle.chi_node.proofs.Homes.{sizes_at}
@@ -58,7 +59,8 @@ arrives_low y agent l k h =
 pub steps_low : (y : SystemState) (action : Action) → IsSystem y → None ≡ system_step_refusal y action → action.agent.0 < y.home.config.agents
 steps_low y action k h =
     let s : SliceState = slice_of y.home action.line.0 in
-    low_agent y action.agent.0 action.line.0 k (both (nat_lt action.agent.0 s.config.agents) _ (in_range_first (is_in_range s action) _ h)).0
+    let may = allowed_with s (outstanding_of (requester_of y action.agent.0)) action (sym h) in
+    low_agent y action.agent.0 action.line.0 k (both (nat_lt action.agent.0 s.config.agents) _ (in_range_first (is_in_range s action) _ (first_none (refused s action) _ (sym may)))).0
 
 pub agent_low : (y : SystemState) (agent : Agent) → None ≡ see_refusal y.home agent.0 → agent.0 < y.home.config.agents
 agent_low y agent h = ltb-true agent.0 y.home.config.agents (unless_none (nat_lt agent.0 y.home.config.agents) h)
