@@ -10,6 +10,7 @@ use chi_journal::{Journal, Record};
 use std::alloc::Allocator;
 
 /// Appends the record of an action that was done, if it has one. There is room for it.
+#[inline(always)]
 pub fn note<A: Allocator>(journal: &mut Journal<A>, action: Action, effect: Effect)
     requires { CanAppend journal.old (record_by action effect) }
     ensures { journal.new ≡ log_after journal.old (record_by action effect) }
