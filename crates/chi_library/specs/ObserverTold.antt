@@ -21,9 +21,9 @@ use Rattle.chi_observe.specs.declared.credits.Account.{Account}
 use Rattle.chi_observe.specs.declared.credits.CreditTypes.{CreditTypes}
 use Rattle.chi_observe.specs.declared.credits.CreditTypes.TheVariants.{Two, Four, Any}
 use Rattle.chi_observe.specs.declared.facts.FaultFacts.{FaultFacts}
-use Rattle.chi_observe.specs.declared.ids.CacheLine.{CacheLine}
-use Rattle.chi_observe.specs.declared.ids.IdKey.{IdKey}
-use Rattle.chi_observe.specs.declared.ids.IdKey.TheVariants as keys
+use Rattle.chi_ids.specs.declared.keys.CacheLine.{CacheLine}
+use Rattle.chi_ids.specs.declared.keys.IdKey.{IdKey}
+use Rattle.chi_ids.specs.declared.keys.IdKey.TheVariants as keys
 use Rattle.chi_observe.specs.declared.ids.OpenId.{OpenId}
 use Rattle.chi_observe.specs.declared.ids.Purpose.{Purpose}
 use Rattle.chi_observe.specs.declared.ids.Purpose.TheVariants as purposes
@@ -36,7 +36,7 @@ use Rattle.chi_observe.specs.declared.watch.Aside.{Aside}
 use Rattle.chi_observe.specs.declared.watch.WatchFault.{WatchFault}
 use Rattle.chi_observe.specs.declared.watch.WatchFault.TheVariants as faults
 use Rattle.chi_observe.specs.Credits.{owed_of, unused_of}
-use Rattle.chi_observe.specs.Ids.{sides_of}
+use Rattle.chi_ids.specs.Keys.{sides_of}
 use Rattle.chi_library.specs.Opcodes as opcodes
 use Rattle.chi_library.specs.Numbers.{flag_number}
 use Rattle.chi_library.specs.declared.observer_told.ChiAccount.{ChiAccount}

@@ -1,7 +1,7 @@
 //! What the calls on an observer are told and tell, in C's words.
 
 ghost use Rattle.std.specs.Prelude.{◌≡◌, ◌≤◌};
-ghost use Rattle.chi_observe.specs.Ids.{sides_of};
+ghost use Rattle.chi_ids.specs.Keys.{sides_of};
 ghost use Rattle.chi_library.specs.ObserverTold.{account_told, aside_line, aside_number, bit, copy_number, counts_told, differing, differs_number, early_at, expected_words, facts_told, fault_told, form_number, id_number, id_reason_number, id_told, is_size, judged_number, key_form, key_number, kind_number, lacks_mask, least, least_byte, line_address, line_number, line_reason_number, mask_of, node_number, opening_at, purpose_number, reason_number, room_at, rule_number, snoop_number, stores_at, told_number, type_number, types_at, wanted_number, words_differ};
 
 use crate::answers::{DONE, FAULT, FULL, NO_MEMORY, SET_ASIDE};
@@ -13,9 +13,10 @@ use crate::opcodes::{
     SNP_SHARED, SNP_UNIQUE, WRITE_BACK_FULL, WRITE_CLEAN_FULL, WRITE_EVICT_FULL, WRITE_UNIQUE_FULL,
 };
 use chi_flit::{Data, NO_DATA};
+use chi_ids::{CacheLine, IdKey, Sides};
 use chi_observe::{
-    Account, Aside, CacheLine, CreditTypes, FaultFacts, IdKey, IdReason, Judged, LineReason, Log,
-    OpenId, Purpose, Room, Sides, Tally, WatchFault, WatchOptions,
+    Account, Aside, CreditTypes, FaultFacts, IdReason, Judged, LineReason, Log, OpenId, Purpose,
+    Room, Tally, WatchFault, WatchOptions,
 };
 use chi_observer::{Kind, Reason, Snoop, Stores, Told};
 use chi_trace::{NodeId, PcrdType};

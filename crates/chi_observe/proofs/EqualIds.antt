@@ -7,9 +7,9 @@ use Rattle.std.proofs.lemmas.Bool.Decides.{Decides-and, Decides-eqb, Decides-lik
 use Rattle.chi_trace.specs.declared.fields.NodeId.{NodeId}
 use Rattle.chi_trace.specs.contracts.fields.NodeIdPartialEq.TheImpl as node_eq
 use Rattle.chi_observe.proofs.EqualFlits.{optional, words, mark, marks, node, txn, dbid, pcrd, resp, seen}
-use Rattle.chi_observe.specs.declared.ids.CacheLine.{CacheLine}
-use Rattle.chi_observe.specs.declared.ids.Sides.{Sides}
-use Rattle.chi_observe.specs.declared.ids.IdKey.{IdKey}
+use Rattle.chi_ids.specs.declared.keys.CacheLine.{CacheLine}
+use Rattle.chi_ids.specs.declared.keys.Sides.{Sides}
+use Rattle.chi_ids.specs.declared.keys.IdKey.{IdKey}
 use Rattle.chi_observer.specs.declared.kinds.Kind.{Kind}
 use Rattle.chi_observer.specs.declared.kinds.Snoop.{Snoop}
 use Rattle.chi_observe.specs.declared.ids.Purpose.{Purpose}
@@ -22,7 +22,7 @@ use Rattle.chi_observer.specs.declared.flits.Grant.{Grant}
 use Rattle.chi_observe.specs.declared.events.Tells.{Tells}
 use Rattle.chi_observe.specs.declared.ids.Later.{Later}
 use Rattle.chi_observe.specs.declared.ids.OpenId.{OpenId}
-use Rattle.chi_observe.specs.declared.ids.KeyNumbers.{KeyNumbers}
+use Rattle.chi_ids.specs.declared.keys.KeyNumbers.{KeyNumbers}
 use Rattle.chi_observe.specs.declared.credits.Account.{Account}
 use Rattle.chi_observe.specs.declared.credits.AccountNumbers.{AccountNumbers}
 use Rattle.chi_observe.specs.declared.credits.CreditTypes.{CreditTypes}
@@ -37,9 +37,9 @@ use Rattle.chi_observer.specs.declared.observer.Reason.{Reason}
 use Rattle.chi_observe.specs.declared.reasons.LineReason.{LineReason}
 use Rattle.chi_observe.specs.declared.watch.WatchFault.{WatchFault}
 use Rattle.chi_observe.specs.declared.benches.FirstStop.{FirstStop}
-use Rattle.chi_observe.specs.contracts.ids.CacheLinePartialEq.TheImpl as line_eq
-use Rattle.chi_observe.specs.contracts.ids.SidesPartialEq.TheImpl as sides_eq
-use Rattle.chi_observe.specs.contracts.ids.IdKeyPartialEq.TheImpl as key_eq
+use Rattle.chi_ids.specs.contracts.keys.CacheLinePartialEq.TheImpl as line_eq
+use Rattle.chi_ids.specs.contracts.keys.SidesPartialEq.TheImpl as sides_eq
+use Rattle.chi_ids.specs.contracts.keys.IdKeyPartialEq.TheImpl as key_eq
 use Rattle.chi_observer.specs.contracts.kinds.KindPartialEq.TheImpl as kind_eq
 use Rattle.chi_observer.specs.contracts.kinds.SnoopPartialEq.TheImpl as snoop_eq
 use Rattle.chi_observe.specs.contracts.ids.PurposePartialEq.TheImpl as purpose_eq
@@ -52,7 +52,7 @@ use Rattle.chi_observer.specs.contracts.flits.GrantPartialEq.TheImpl as grant_eq
 use Rattle.chi_observe.specs.contracts.events.TellsPartialEq.TheImpl as tells_eq
 use Rattle.chi_observe.specs.contracts.ids.LaterPartialEq.TheImpl as later_eq
 use Rattle.chi_observe.specs.contracts.ids.OpenIdPartialEq.TheImpl as id_eq
-use Rattle.chi_observe.specs.contracts.ids.KeyNumbersPartialEq.TheImpl as key_numbers_eq
+use Rattle.chi_ids.specs.contracts.keys.KeyNumbersPartialEq.TheImpl as key_numbers_eq
 use Rattle.chi_observe.specs.contracts.credits.AccountPartialEq.TheImpl as account_eq
 use Rattle.chi_observe.specs.contracts.credits.AccountNumbersPartialEq.TheImpl as account_numbers_eq
 use Rattle.chi_observe.specs.contracts.credits.CreditTypesPartialEq.TheImpl as types_eq

@@ -22,8 +22,8 @@ use Rattle.chi_observe.specs.declared.events.AccessEvent.{AccessEvent}
 use Rattle.chi_observe.specs.declared.events.Event.{Event}
 use Rattle.chi_observe.specs.declared.events.Event.TheVariants as events
 use Rattle.chi_observe.specs.declared.events.LineEvent.{LineEvent}
-use Rattle.chi_observe.specs.declared.ids.IdKey.{IdKey}
-use Rattle.chi_observe.specs.declared.ids.KeyNumbers.{KeyNumbers}
+use Rattle.chi_ids.specs.declared.keys.IdKey.{IdKey}
+use Rattle.chi_ids.specs.declared.keys.KeyNumbers.{KeyNumbers}
 use Rattle.chi_observe.specs.declared.ids.OpenId.{OpenId}
 use Rattle.chi_observe.specs.declared.reasons.IdReason.{IdReason}
 use Rattle.chi_observe.specs.declared.reasons.IdReason.TheVariants.{NotOpen}
@@ -35,7 +35,8 @@ use Rattle.chi_observe.specs.declared.watch.Aside.{Aside}
 use Rattle.chi_observe.specs.declared.watch.Counts.{Counts}
 use Rattle.chi_observe.specs.Credits.{account_numbers, booked, booked_all, is_same_account, with_event}
 use Rattle.chi_observe.specs.Bounded.{IsWithin, access_fits, access_fits_at, account_fits, adds_requester, allowed_fits, booking_fits, fits, frees_of, has_room, ids_behind, is_account_new, is_new, is_opened_as, line_fits, nodes_fit, number_of, opens_account, rest_fits}
-use Rattle.chi_observe.specs.Ids.{has_numbers_of, is_same_numbers, numbers_of, opened_at, with_id, without}
+use Rattle.chi_ids.specs.Keys.{is_same_numbers, numbers_of}
+use Rattle.chi_observe.specs.Ids.{has_numbers_of, opened_at, with_id, without}
 use Rattle.chi_observe.specs.Lines.{home_of}
 use Rattle.chi_observe.specs.Nodes.{adds_home, with_home, with_requester}
 use Rattle.chi_observe.specs.Grants.{granted, returned}

@@ -12,8 +12,8 @@ use Rattle.chi_observe.specs.declared.bounded.Room.{Room}
 use Rattle.chi_observe.specs.declared.events.Event.{Event}
 use Rattle.chi_observe.specs.declared.events.Event.TheVariants as events
 use Rattle.chi_observe.specs.declared.facts.FaultFacts.{FaultFacts}
-use Rattle.chi_observe.specs.declared.ids.CacheLine.{CacheLine}
-use Rattle.chi_observe.specs.declared.ids.Sides.{Sides}
+use Rattle.chi_ids.specs.declared.keys.CacheLine.{CacheLine}
+use Rattle.chi_ids.specs.declared.keys.Sides.{Sides}
 use Rattle.chi_observe.specs.declared.reasons.IdReason.{IdReason}
 use Rattle.chi_observe.specs.declared.tables.Change.{Change}
 use Rattle.chi_observe.specs.declared.steps.WatchOptions.{WatchOptions}

@@ -15,11 +15,11 @@ use Rattle.chi_observe.specs.declared.events.AccessEvent.{AccessEvent}
 use Rattle.chi_observe.specs.declared.events.Event.{Event}
 use Rattle.chi_observe.specs.declared.events.Event.TheVariants as events
 use Rattle.chi_observe.specs.declared.events.LineEvent.{LineEvent}
-use Rattle.chi_observe.specs.declared.ids.CacheLine.{CacheLine}
-use Rattle.chi_observe.specs.declared.ids.IdKey.{IdKey}
-use Rattle.chi_observe.specs.declared.ids.KeyNumbers.{KeyNumbers}
+use Rattle.chi_ids.specs.declared.keys.CacheLine.{CacheLine}
+use Rattle.chi_ids.specs.declared.keys.IdKey.{IdKey}
+use Rattle.chi_ids.specs.declared.keys.KeyNumbers.{KeyNumbers}
 use Rattle.chi_observe.specs.declared.ids.OpenId.{OpenId}
-use Rattle.chi_observe.specs.declared.ids.Sides.{Sides}
+use Rattle.chi_ids.specs.declared.keys.Sides.{Sides}
 use Rattle.chi_observe.specs.declared.reasons.IdReason.{IdReason}
 use Rattle.chi_observe.specs.declared.tables.Change.{Change}
 use Rattle.chi_observe.specs.declared.tables.Part.{Part}
@@ -27,7 +27,8 @@ use Rattle.chi_observe.specs.declared.tables.Part.TheVariants as parts
 use Rattle.chi_observe.specs.declared.steps.WatchOptions.{WatchOptions}
 use Rattle.chi_observe.specs.declared.watch.WatchFault.{WatchFault}
 use Rattle.chi_observe.specs.Credits.{account_numbers, is_same_account}
-use Rattle.chi_observe.specs.Ids.{has_numbers_of, id_of, numbers_of}
+use Rattle.chi_ids.specs.Keys.{numbers_of}
+use Rattle.chi_observe.specs.Ids.{has_numbers_of, id_of}
 use Rattle.chi_observe.specs.Nodes.{adds_home}
 use Rattle.chi_observe.specs.Grants.{granted, returned}
 use Rattle.chi_observe.specs.Lines.{home_of}

@@ -14,7 +14,7 @@ use Rattle.chi_observe.specs.declared.credits.CreditEvent.{CreditEvent}
 use Rattle.chi_observe.specs.declared.credits.CreditEvent.TheVariants.{Retried, Granted, Resent, Returned}
 use Rattle.chi_observe.specs.declared.credits.CreditTypes.{CreditTypes}
 use Rattle.chi_observe.specs.declared.credits.CreditTypes.TheVariants.{Two, Four, Any}
-use Rattle.chi_observe.specs.declared.ids.Sides.{Sides}
+use Rattle.chi_ids.specs.declared.keys.Sides.{Sides}
 
 -- the type of each kind, where there are two and where there are four
 abbrev pub type_of_two : Kind → ℕ

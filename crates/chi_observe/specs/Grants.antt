@@ -5,13 +5,13 @@ use Rattle.std.specs.Map.{values_of}
 use Rattle.chi_trace.specs.declared.fields.PcrdType.{PcrdType}
 use Rattle.chi_observe.specs.declared.credits.Booking.{Booking}
 use Rattle.chi_observe.specs.declared.credits.CreditEvent.TheVariants as events
-use Rattle.chi_observe.specs.declared.ids.IdKey.{IdKey}
-use Rattle.chi_observe.specs.declared.ids.IdKey.TheVariants as keys
-use Rattle.chi_observe.specs.declared.ids.KeyNumbers.{KeyNumbers}
+use Rattle.chi_ids.specs.declared.keys.IdKey.{IdKey}
+use Rattle.chi_ids.specs.declared.keys.IdKey.TheVariants as keys
+use Rattle.chi_ids.specs.declared.keys.KeyNumbers.{KeyNumbers}
 use Rattle.chi_observe.specs.declared.ids.OpenId.{OpenId}
 use Rattle.chi_observe.specs.declared.ids.Purpose.{Purpose}
 use Rattle.chi_observe.specs.declared.ids.Purpose.TheVariants as purposes
-use Rattle.chi_observe.specs.declared.ids.Sides.{Sides}
+use Rattle.chi_ids.specs.declared.keys.Sides.{Sides}
 use Rattle.chi_observe.specs.declared.reasons.IdReason.{IdReason}
 use Rattle.chi_observe.specs.declared.reasons.IdReason.TheVariants.{NothingRetried, NoCredit}
 use Rattle.chi_observe.specs.declared.steps.WatchOptions.{WatchOptions}

@@ -1,29 +1,17 @@
--- The ids that are open, each under its key: its sort, its home, its requester and its number (docs/OBSERVER.md, "Ids and
--- credits").
-use Rattle.std.specs.Prelude.{ℕ, ◌==◌, ◌&&◌, Bool, true, false, List, Option, Some, None}
+-- The ids that are open, each under its key (docs/OBSERVER.md, "Ids and credits").
+use Rattle.std.specs.Prelude.{ℕ, Bool, true, false, List, Option, Some, None}
 use Rattle.std.specs.Map.{lookup}
 use Rattle.indexmap.specs.IndexMap.{insert_entry, swap_remove_entry}
-use Rattle.chi_observe.specs.declared.ids.CacheLine.{CacheLine}
-use Rattle.chi_observe.specs.declared.ids.IdKey.{IdKey}
-use Rattle.chi_observe.specs.declared.ids.IdKey.TheVariants.{Request, Buffer, Snoop, Retried}
-use Rattle.chi_observe.specs.declared.ids.KeyNumbers.{KeyNumbers}
+use Rattle.chi_ids.specs.declared.keys.CacheLine.{CacheLine}
+use Rattle.chi_ids.specs.declared.keys.IdKey.{IdKey}
+use Rattle.chi_ids.specs.declared.keys.KeyNumbers.{KeyNumbers}
 use Rattle.chi_observe.specs.declared.ids.Later.TheVariants.{Told}
 use Rattle.chi_observe.specs.declared.ids.OpenId.{OpenId}
-use Rattle.chi_observe.specs.declared.ids.Sides.{Sides}
+use Rattle.chi_ids.specs.Keys.{is_same_numbers, numbers_of}
 use Rattle.chi_observe.specs.declared.ids.Purpose.{Purpose}
 use Rattle.chi_observe.specs.declared.ids.Purpose.TheVariants as purposes
 use Rattle.chi_observer.specs.declared.kinds.Kind.{Kind}
 use Rattle.chi_observer.specs.declared.kinds.Kind.TheVariants as kinds
-
--- a key as numbers, by which a table finds what it names
-abbrev pub numbers_of : IdKey → KeyNumbers
-numbers_of (Request sides txn) = record { sort = 0; home = sides.home.0; requester = sides.requester.0; number = txn.0 }
-numbers_of (Buffer sides dbid) = record { sort = 1; home = sides.home.0; requester = sides.requester.0; number = dbid.0 }
-numbers_of (Snoop sides txn) = record { sort = 2; home = sides.home.0; requester = sides.requester.0; number = txn.0 }
-numbers_of (Retried sides line) = record { sort = 3; home = sides.home.0; requester = sides.requester.0; number = line.0 }
-
-abbrev pub is_same_numbers : KeyNumbers → KeyNumbers → Bool
-is_same_numbers one other = one.sort == other.sort && (one.home == other.home && (one.requester == other.requester && one.number == other.number))
 
 abbrev pub has_numbers_of : IdKey → KeyNumbers → Bool
 has_numbers_of key numbers = is_same_numbers (numbers_of key) numbers
@@ -50,19 +38,6 @@ abbrev pub is_unknown : Purpose → Bool
 is_unknown (purposes.Request kind first) = false
 is_unknown (purposes.Snoop snoop) = false
 is_unknown (purposes.Unknown first) = true
-
-abbrev pub sides_of : IdKey → Sides
-sides_of (Request sides txn) = sides
-sides_of (Buffer sides dbid) = sides
-sides_of (Snoop sides txn) = sides
-sides_of (Retried sides line) = sides
-
--- the same key, but for its home
-abbrev pub alike_numbers : KeyNumbers → KeyNumbers → Bool
-alike_numbers one other = one.sort == other.sort && (one.requester == other.requester && one.number == other.number)
-
-abbrev pub is_alike : IdKey → IdKey → Bool
-is_alike key other = alike_numbers (numbers_of key) (numbers_of other)
 
 -- an id that is opened
 abbrev pub opened_id : IdKey → CacheLine → Purpose → OpenId

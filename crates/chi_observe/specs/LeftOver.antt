@@ -6,12 +6,12 @@ use Rattle.std.specs.List.{position}
 use Rattle.chi_trace.specs.declared.fields.DbId.{DbId}
 use Rattle.chi_trace.specs.declared.fields.NodeId.{NodeId}
 use Rattle.chi_observe.specs.declared.events.LineEvent.{LineEvent}
-use Rattle.chi_observe.specs.declared.ids.IdKey.{IdKey}
-use Rattle.chi_observe.specs.declared.ids.IdKey.TheVariants as keys
-use Rattle.chi_observe.specs.declared.ids.KeyNumbers.{KeyNumbers}
+use Rattle.chi_ids.specs.declared.keys.IdKey.{IdKey}
+use Rattle.chi_ids.specs.declared.keys.IdKey.TheVariants as keys
+use Rattle.chi_ids.specs.declared.keys.KeyNumbers.{KeyNumbers}
 use Rattle.chi_observe.specs.declared.ids.OpenId.{OpenId}
 use Rattle.chi_observe.specs.declared.ids.Purpose.TheVariants as purposes
-use Rattle.chi_observe.specs.declared.ids.Sides.{Sides}
+use Rattle.chi_ids.specs.declared.keys.Sides.{Sides}
 use Rattle.chi_observe.specs.declared.steps.IdStep.{IdStep}
 use Rattle.chi_observe.specs.declared.steps.IdStep.TheVariants.{CompleteWith, ReadData, AnswerData, WriteData, UnknownAnswer, UnknownReply}
 use Rattle.chi_observe.specs.declared.steps.WatchOptions.{WatchOptions}

@@ -14,7 +14,7 @@ use Rattle.chi_observer.specs.declared.wanted.Wanted.{Wanted}
 use Rattle.chi_observer.specs.declared.wanted.Wanted.TheVariants as wants
 use Rattle.chi_observer.specs.Listed.{Words}
 use Rattle.chi_observer.specs.Wanted.{reads_home}
-use Rattle.chi_observe.specs.declared.ids.CacheLine.{CacheLine}
+use Rattle.chi_ids.specs.declared.keys.CacheLine.{CacheLine}
 use Rattle.chi_observe.specs.declared.ids.Later.{Later}
 use Rattle.chi_observe.specs.declared.ids.Later.TheVariants as laters
 use Rattle.chi_observe.specs.declared.lines.Lacking.{Lacking}

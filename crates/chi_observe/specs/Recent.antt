@@ -3,7 +3,7 @@ use Rattle.std.specs.Prelude.{ℕ, ◌++◌, List, [], ◌∷◌, if◌then◌el
 use Rattle.std.specs.Map.{lookup}
 use Rattle.chi_trace.specs.declared.any_flits.AnySeen.{AnySeen}
 use Rattle.chi_observer.specs.Worlds.{put}
-use Rattle.chi_observe.specs.declared.ids.CacheLine.{CacheLine}
+use Rattle.chi_ids.specs.declared.keys.CacheLine.{CacheLine}
 use Rattle.chi_observe.specs.declared.recent.LastFlits.{LastFlits}
 
 -- of each line, oldest first

@@ -39,7 +39,7 @@ use Rattle.chi_observe.specs.declared.events.Event.{Event}
 use Rattle.chi_observe.specs.declared.events.Event.TheVariants as events
 use Rattle.chi_observe.specs.declared.events.Tells.{Tells}
 use Rattle.chi_observe.specs.declared.events.Tells.TheVariants.{Sent, Given, Unjudged, NoForm}
-use Rattle.chi_observe.specs.declared.ids.CacheLine.{CacheLine}
+use Rattle.chi_ids.specs.declared.keys.CacheLine.{CacheLine}
 use Rattle.chi_observe.specs.declared.steps.IdStep.{IdStep}
 use Rattle.chi_observe.specs.declared.steps.IdStep.TheVariants as steps
 

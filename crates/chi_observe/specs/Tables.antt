@@ -8,20 +8,21 @@ use Rattle.chi_observe.specs.declared.credits.Account.{Account}
 use Rattle.chi_observe.specs.declared.credits.AccountNumbers.{AccountNumbers}
 use Rattle.chi_observe.specs.declared.credits.Booking.{Booking}
 use Rattle.chi_observe.specs.declared.credits.CreditEvent.{CreditEvent}
-use Rattle.chi_observe.specs.declared.ids.CacheLine.{CacheLine}
-use Rattle.chi_observe.specs.declared.ids.IdKey.{IdKey}
-use Rattle.chi_observe.specs.declared.ids.IdKey.TheVariants as keys
-use Rattle.chi_observe.specs.declared.ids.KeyNumbers.{KeyNumbers}
+use Rattle.chi_ids.specs.declared.keys.CacheLine.{CacheLine}
+use Rattle.chi_ids.specs.declared.keys.IdKey.{IdKey}
+use Rattle.chi_ids.specs.declared.keys.IdKey.TheVariants as keys
+use Rattle.chi_ids.specs.declared.keys.KeyNumbers.{KeyNumbers}
 use Rattle.chi_observe.specs.declared.ids.OpenId.{OpenId}
 use Rattle.chi_observe.specs.declared.ids.Purpose.TheVariants as purposes
-use Rattle.chi_observe.specs.declared.ids.Sides.{Sides}
+use Rattle.chi_ids.specs.declared.keys.Sides.{Sides}
 use Rattle.chi_observe.specs.declared.reasons.IdReason.{IdReason}
 use Rattle.chi_observe.specs.declared.reasons.IdReason.TheVariants.{InUse, NotOpen, Unfinished, WrongAddress, OtherType, NoDbid}
 use Rattle.chi_observe.specs.declared.tables.Change.{Change}
 use Rattle.chi_observe.specs.declared.tables.Part.TheVariants as parts
 use Rattle.chi_observe.specs.declared.tables.Tables.{Tables}
 use Rattle.chi_observe.specs.Credits.{account_of}
-use Rattle.chi_observe.specs.Ids.{id_of, is_alike, is_kept_for, is_unknown, sides_of, opened_id}
+use Rattle.chi_ids.specs.Keys.{is_alike, sides_of}
+use Rattle.chi_observe.specs.Ids.{id_of, is_kept_for, is_unknown, opened_id}
 use Rattle.chi_observe.specs.Lines.{is_aside, lines_in}
 use Rattle.chi_observe.specs.Reasons.{◌>>=◌}
 

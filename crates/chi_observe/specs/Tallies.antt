@@ -2,8 +2,8 @@
 use Rattle.std.specs.Prelude.{ℕ, ◌&&◌, Bool, true, false, length}
 use Rattle.std.specs.List.{count_by}
 use Rattle.std.specs.Map.{values_of}
-use Rattle.chi_observe.specs.declared.ids.IdKey.{IdKey}
-use Rattle.chi_observe.specs.declared.ids.IdKey.TheVariants as keys
+use Rattle.chi_ids.specs.declared.keys.IdKey.{IdKey}
+use Rattle.chi_ids.specs.declared.keys.IdKey.TheVariants as keys
 use Rattle.chi_observe.specs.declared.ids.OpenId.{OpenId}
 use Rattle.chi_observe.specs.declared.tallies.IdForm.{IdForm}
 use Rattle.chi_observe.specs.declared.tallies.IdForm.TheVariants.{Request, Buffer, Snoop, Retried}

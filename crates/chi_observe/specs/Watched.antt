@@ -17,12 +17,12 @@ use Rattle.chi_observe.specs.declared.events.Event.TheVariants as events
 use Rattle.chi_observe.specs.declared.events.LineEvent.{LineEvent}
 use Rattle.chi_observe.specs.declared.events.Tells.{Tells}
 use Rattle.chi_observe.specs.declared.events.Tells.TheVariants.{NoForm, Unjudged}
-use Rattle.chi_observe.specs.declared.ids.CacheLine.{CacheLine}
-use Rattle.chi_observe.specs.declared.ids.IdKey.{IdKey}
-use Rattle.chi_observe.specs.declared.ids.KeyNumbers.{KeyNumbers}
+use Rattle.chi_ids.specs.declared.keys.CacheLine.{CacheLine}
+use Rattle.chi_ids.specs.declared.keys.IdKey.{IdKey}
+use Rattle.chi_ids.specs.declared.keys.KeyNumbers.{KeyNumbers}
 use Rattle.chi_observe.specs.declared.ids.Later.{Later}
 use Rattle.chi_observe.specs.declared.ids.OpenId.{OpenId}
-use Rattle.chi_observe.specs.declared.ids.Sides.{Sides}
+use Rattle.chi_ids.specs.declared.keys.Sides.{Sides}
 use Rattle.chi_observe.specs.declared.reasons.IdReason.{IdReason}
 use Rattle.chi_observe.specs.declared.reasons.IdReason.TheVariants.{Form, NotOpen}
 use Rattle.chi_observe.specs.declared.reasons.LineReason.{LineReason}
@@ -131,8 +131,11 @@ abbrev pub all_ready : Watched → LineEvent → Result Change IdReason → Resu
 all_ready w e (Ok change) = Ok (ready w e change)
 all_ready w e (Err reason) = Err reason
 
+abbrev pub changed : Watched → LineEvent → Result Change IdReason
+changed w e = formed e.tells (change_of w.options (table_in w) e.sides e.step e.at e.tells)
+
 abbrev pub allowed : Watched → LineEvent → Result Change IdReason
-allowed w e = all_ready w e (formed e.tells (change_of w.options (table_in w) e.sides e.step e.at e.tells))
+allowed w e = all_ready w e (changed w e)
 
 abbrev pub news_in : Watched → LineEvent → Change → LineNews
 news_in w e change = news_of e.tells change.part (agent_in w e)

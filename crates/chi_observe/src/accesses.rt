@@ -4,13 +4,13 @@ ghost use Rattle.std.specs.Prelude.{◌≡◌, OnOk};
 ghost use Rattle.chi_observe.specs.Watched.{IsAccessWatched, IsWatched, access_agent, access_counted, access_settled, watched};
 
 use crate::events::{AccessEvent, Event, flit_by};
-use crate::ids::Sides;
 use crate::judges::Before;
 use crate::lines::{LineNews, LineStop, home_of, tell};
 use crate::nodes::{add_requester, agent_of};
 use crate::reasons::LineReason;
 use crate::watch::{Aside, Watch, WatchFault, WatchStop, mark_of};
 use chi_flit::Agent;
+use chi_ids::Sides;
 use chi_observer::Reason;
 use chi_trace::NodeId;
 use std::alloc::{AllocError, Allocator};

@@ -5,10 +5,11 @@ ghost use Rattle.chi_observe.specs.Beats.{beat_of, first_beat, first_dbid, held_
 ghost use Rattle.chi_observe.specs.Tables.{table_of};
 
 use crate::events::Tells;
-use crate::ids::{CacheLine, IdKey, Later, OpenId, Purpose};
+use crate::ids::{Later, OpenId, Purpose};
 use crate::reasons::IdReason;
 use crate::tables::{Change, Part, Tables, plain_change};
 use crate::words::{lacks_some, left_of, words_with};
+use chi_ids::{CacheLine, IdKey};
 use chi_trace::DbId;
 use std::alloc::Allocator;
 

@@ -5,11 +5,11 @@ ghost use Rattle.chi_observe.specs.Benches.{IsSeen, IsSeenNext, benched, is_line
 ghost use Rattle.chi_observe.specs.Watched.{watched};
 
 use crate::bounded::{BoundedStop, BoundedWatch, Room};
-use crate::ids::CacheLine;
 use crate::lines::is_aside;
 use crate::seen::event_of;
 use crate::steps::WatchOptions;
 use crate::watch::{Watch, WatchFault};
+use chi_ids::CacheLine;
 use chi_trace::AnySeen;
 use std::alloc::{AllocError, Allocator};
 use std::fmt::Write;

@@ -8,7 +8,7 @@ ghost use Rattle.chi_observe.specs.Watched.{allowed, nothing_watched, watched};
 
 use crate::credits::{AccountTable, Booking, account_numbers};
 use crate::events::{AccessEvent, Event, LineEvent};
-use crate::ids::{CacheLine, IdKey, IdTable, OpenId, Sides, find_id, numbers_of};
+use crate::ids::{IdTable, OpenId, find_id};
 use crate::lines::{LineTable, SpareMarks, home_of};
 use crate::nodes::adds_home;
 use crate::reasons::IdReason;
@@ -16,6 +16,7 @@ use crate::steps::WatchOptions;
 use crate::tables::{Change, Part};
 use crate::watch::{Counts, Watch, WatchFault, WatchStop};
 use chi_flit::Agent;
+use chi_ids::{CacheLine, IdKey, Sides, numbers_of};
 use chi_trace::NodeId;
 use indexmap::IndexMap;
 use std::alloc::{AllocError, Allocator};
@@ -323,7 +324,9 @@ impl<A: Allocator + Copy> BoundedWatch<A> {
         ensures line { IfOk result (λ line. line
             ≡ line_in (bounded self.old).told (Event.Line event.now)) }
     {
-        match &self.watch.allowed(event) {
+        let mut changed = self.watch.changed(event);
+        self.watch.make_ready(event, &mut changed);
+        match &changed {
             Ok(change) => match self.take_allowed(event, change) {
                 Ok(()) => Ok(Some(change.line)),
                 Err(stop) => Err(stop),

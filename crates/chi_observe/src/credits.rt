@@ -4,7 +4,7 @@ ghost use Rattle.std.specs.Prelude.{◌≡◌, IfSome};
 ghost use Rattle.chi_observe.specs.Credits.{account_numbers, account_of, may_grant, opened_account, owed_of, unused_of, with_event};
 ghost use Rattle.chi_observe.specs.Credits.{type_of_four, type_of_two, wanted_of};
 
-use crate::ids::Sides;
+use chi_ids::Sides;
 use chi_observer::Kind;
 use chi_trace::PcrdType;
 use indexmap::IndexMap;

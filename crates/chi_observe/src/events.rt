@@ -3,12 +3,12 @@
 ghost use Rattle.std.specs.Prelude.{◌≡◌};
 ghost use Rattle.chi_observe.specs.Events.{begun_by, early_by, ended_by, flit_by, judged, news_of, with_words, words_of};
 
-use crate::ids::{CacheLine, Sides};
 use crate::lines::LineNews;
 use crate::marks::shows_some;
 use crate::steps::IdStep;
 use crate::tables::Part;
 use chi_flit::{Agent, Data, NO_DATA};
+use chi_ids::{CacheLine, Sides};
 use chi_observer::{Act, CacheFlit, Flit, Grant, HomeFlit};
 use chi_trace::{NodeId, PcrdType, Resp};
 

@@ -6,7 +6,7 @@ ghost use Rattle.chi_observe.specs.Seen.{event_of};
 
 use crate::benches::{BenchWatch, FirstStop};
 use crate::events::Event;
-use crate::ids::{CacheLine, IdKey, Sides, find_id};
+use crate::ids::find_id;
 use crate::judges::Judge;
 use crate::lines::LineSeen;
 use crate::marks::{is_known, teller_of};
@@ -15,6 +15,7 @@ use crate::seen::event_of;
 use crate::texts::{expected_in, key_of, known_words_of, words_beside};
 use crate::watch::{Watch, WatchFault};
 use chi_flit::Data;
+use chi_ids::{CacheLine, IdKey, Sides};
 use chi_observer::{AGENTS, Flit, Reason, Told};
 use chi_trace::{AnySeen, NodeId};
 use std::alloc::Allocator;

@@ -6,9 +6,10 @@ ghost use Rattle.chi_observe.specs.Grants.{attempts, early_of, granted, is_attem
 ghost use Rattle.chi_observe.specs.Tables.{table_of};
 
 use crate::credits::{Booking, CreditEvent};
-use crate::ids::{IdKey, OpenId, Purpose, Sides};
+use crate::ids::{OpenId, Purpose};
 use crate::reasons::IdReason;
 use crate::tables::Tables;
+use chi_ids::{IdKey, Sides};
 use chi_trace::PcrdType;
 use std::alloc::Allocator;
 

@@ -1,41 +1,15 @@
 //! The ids that are open.
 
 ghost use Rattle.std.specs.Prelude.{◌≡◌};
-ghost use Rattle.chi_observe.specs.Ids.{id_of, is_alike, is_followed, is_kept_for, is_unknown, numbers_of, opened_at, opened_id, sides_of};
+ghost use Rattle.chi_observe.specs.Ids.{id_of, is_followed, is_kept_for, is_unknown, opened_at, opened_id};
 
 use crate::events::Tells;
+use chi_ids::{CacheLine, IdKey, KeyNumbers, numbers_of};
 use chi_observer::{Kind, Snoop};
-use chi_trace::{DbId, NodeId, PcrdType, TxnId};
+use chi_trace::{DbId, PcrdType};
 use indexmap::IndexMap;
 use std::alloc::Allocator;
 use std::hash::{BuildHasherDefault, FoldHasher};
-
-/// A line of memory: an address divided by the 64 bytes of a line.
-/// Source: `docs/TRACES.md`, "Traces".
-#[derive(Clone, Copy, Debug, PartialEq, Eq)]
-pub struct CacheLine(pub u64);
-
-/// The two nodes that a flit is between.
-/// Source: `docs/OBSERVER.md`, "Ids and credits".
-#[derive(Clone, Copy, Debug, PartialEq, Eq)]
-pub struct Sides {
-    pub requester: NodeId,
-    pub home: NodeId,
-}
-
-/// What an open id is named by.
-/// Source: `docs/OBSERVER.md`, "Ids and credits".
-#[derive(Clone, Copy, Debug, PartialEq, Eq)]
-pub enum IdKey {
-    /// A request: from its flit to RetryAck, Comp, CompData or CompDBIDResp.
-    Request(Sides, TxnId),
-    /// What the home keeps for a request: from Comp_UC, CompData or CompDBIDResp to CompAck or write data.
-    Buffer(Sides, DbId),
-    /// A snoop: from its flit to SnpResp or SnpRespData.
-    Snoop(Sides, TxnId),
-    /// A request to the line that was retried: from its RetryAck to the requester's next request to the line.
-    Retried(Sides, CacheLine),
-}
 
 /// What an id is open for.
 /// Source: `docs/OBSERVER.md`, "Ids and credits".
@@ -71,26 +45,6 @@ impl Purpose {
             Purpose::Unknown { first: _ } => true,
         }
     }
-}
-
-/// The two nodes of a key.
-pub(crate) fn sides_of(key: IdKey) -> Sides
-    ensures { result ≡ sides_of key }
-{
-    match key {
-        IdKey::Request(sides, _) => sides,
-        IdKey::Buffer(sides, _) => sides,
-        IdKey::Snoop(sides, _) => sides,
-        IdKey::Retried(sides, _) => sides,
-    }
-}
-
-/// Whether a key is another one but for its home.
-pub(crate) fn is_alike(key: IdKey, other: IdKey) -> bool
-    ensures { result ≡ is_alike key other }
-{
-    let (one, other) = (numbers_of(key), numbers_of(other));
-    one.sort == other.sort && (one.requester == other.requester && one.number == other.number)
 }
 
 /// Whether a CompAck or write data follow the completion of such a request.
@@ -145,36 +99,8 @@ pub struct OpenId {
     pub since: usize,
 }
 
-/// A key as numbers, by which a table finds what it names.
-#[derive(Clone, Copy, PartialEq, Eq, Hash)]
-pub(crate) struct KeyNumbers {
-    /// Which sort of key it is.
-    sort: u8,
-    home: u16,
-    requester: u16,
-    number: u64,
-}
-
 /// The ids that are open, each under its key.
 pub(crate) type IdTable<A> = IndexMap<KeyNumbers, OpenId, BuildHasherDefault<FoldHasher>, A>;
-
-/// A key as numbers.
-pub(crate) fn numbers_of(key: IdKey) -> KeyNumbers
-    ensures { result ≡ numbers_of key }
-{
-    let (sort, sides, number) = match key {
-        IdKey::Request(sides, txn) => (0, sides, u64::from(txn.0)),
-        IdKey::Buffer(sides, dbid) => (1, sides, u64::from(dbid.0)),
-        IdKey::Snoop(sides, txn) => (2, sides, u64::from(txn.0)),
-        IdKey::Retried(sides, line) => (3, sides, line.0),
-    };
-    KeyNumbers {
-        sort,
-        home: sides.home.0,
-        requester: sides.requester.0,
-        number,
-    }
-}
 
 /// The open id that has this key.
 pub(crate) fn find_id<A: Allocator>(ids: &IdTable<A>, key: IdKey) -> Option<OpenId>

@@ -7,12 +7,13 @@ ghost use Rattle.chi_observe.specs.Watched.{IsUnopenedWatched, left_over_after, 
 
 use crate::beats::is_again;
 use crate::events::LineEvent;
-use crate::ids::{CacheLine, IdKey, IdTable, OpenId, Purpose, Sides, find_id, opened_id};
+use crate::ids::{IdTable, OpenId, Purpose, find_id, opened_id};
 use crate::nodes::place_of;
 use crate::reasons::IdReason;
 use crate::steps::{IdStep, WatchOptions};
 use crate::watch::{Watch, WatchFault, WatchStop, free_id, keep_id};
 use crate::words::left_of;
+use chi_ids::{CacheLine, IdKey, Sides};
 use chi_trace::DbId;
 use std::alloc::{AllocError, Allocator};
 

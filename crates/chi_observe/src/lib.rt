@@ -43,7 +43,7 @@ pub use bounded::{BoundedStop, BoundedWatch, Room};
 pub use credits::{Account, CreditTypes};
 pub use events::{AccessEvent, Event, LineEvent, Tells};
 pub use facts::{FaultFacts, Ground};
-pub use ids::{CacheLine, IdKey, Later, OpenId, Purpose, Sides};
+pub use ids::{Later, OpenId, Purpose};
 pub use judges::Log;
 pub use laws::{a_watch_stays_in_its_room, beats_are_one_flit};
 pub use observations::observe;

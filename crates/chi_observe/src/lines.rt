@@ -7,7 +7,7 @@ ghost use Rattle.chi_observer.specs.ListedLines.{words_of};
 ghost use Rattle.chi_observe.specs.Judges.{before_of};
 ghost use Rattle.chi_observe.specs.Lines.{IsBegunTold, IsBetweenTold, IsEarlyTold, IsEndTold, IsFlitTold, IsHeldTold, IsHoldTold, IsLastTold, IsLineTold, IsShownTold, IsTold, early_of, held_next, home_of, is_apart, is_aside, is_given, is_known_lacking, is_put_aside, is_showing, is_wanted_free, is_wanted_known, lacking_shown, lacking_with, lacking_without, lacks_of, line_state, lines_in, marked_next, may_show, opened_line, presented, put_aside, shown_more, shown_words, shows_home, unknown_in, wanted_of, with_shown, word_in};
 
-use crate::ids::{CacheLine, Later};
+use crate::ids::Later;
 use crate::judges::{Before, Judge};
 use crate::marks::{Marks, shows_some, teller_of};
 use crate::reasons::LineReason;
@@ -15,6 +15,7 @@ use crate::words::{
     agrees, but_known, but_one, lacks_some, left_of, unknown_behind, with_known, words_with,
 };
 use chi_flit::{Data, WordNo};
+use chi_ids::CacheLine;
 use chi_observer::{
     Act, Aside, CacheFlit, Flit, HomeFlit, KnownWords, Reason, Untaken, Wanted, Word,
 };

@@ -3,8 +3,8 @@
 ghost use Rattle.std.specs.Prelude.{IfOk, string_bytes};
 ghost use Rattle.chi_observe.specs.Reports.{BeginsWith};
 
-use crate::ids::{CacheLine, IdKey};
 use chi_flit::State;
+use chi_ids::{CacheLine, IdKey};
 use chi_observer::{Act, Answer, Grant, Kind, Snoop, Told};
 use chi_trace::{AnyFlit, AnySeen, Flit, NodeId, Resp};
 use std::alloc::{AllocError, Allocator};

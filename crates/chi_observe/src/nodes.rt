@@ -3,8 +3,8 @@
 ghost use Rattle.std.specs.Prelude.{◌≡◌, OnOk, is_some, position};
 ghost use Rattle.chi_observe.specs.Nodes.{adds_home, agent_of, is_node, is_one_sided, numbered, with_home, with_requester};
 
-use crate::ids::Sides;
 use chi_flit::Agent;
+use chi_ids::Sides;
 use chi_observer::AGENTS;
 use chi_trace::NodeId;
 use std::alloc::{AllocError, Allocator};

@@ -7,12 +7,13 @@ ghost use Rattle.chi_observe.specs.Lines.{line_state};
 ghost use Rattle.chi_observe.specs.Watched.{watched};
 
 use crate::credits::Account;
-use crate::ids::{IdKey, OpenId, Purpose, Sides};
+use crate::ids::{OpenId, Purpose};
 use crate::lines::{LineSeen, is_aside};
 use crate::names::{KindName, LineName, NodeName, SnoopName};
 use crate::nodes::agent_of;
 use crate::watch::Watch;
 use chi_flit::Agent;
+use chi_ids::{IdKey, Sides};
 use chi_trace::NodeId;
 use std::alloc::{AllocError, Allocator};
 use std::fmt;

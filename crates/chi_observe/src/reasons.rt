@@ -1,6 +1,6 @@
 //! Why a flit isn't taken.
 
-use crate::ids::{CacheLine, IdKey, Sides};
+use chi_ids::{CacheLine, IdKey, Sides};
 use chi_observer::Reason;
 use chi_trace::{NodeId, PcrdType, Resp};
 

@@ -4,7 +4,7 @@ ghost use Rattle.std.specs.Prelude.{◌≡◌, None, OnOk, nat_eq};
 ghost use Rattle.std.specs.Map.{lookup};
 ghost use Rattle.chi_observe.specs.Recent.{pushed, recent_behind, recent_in};
 
-use crate::ids::CacheLine;
+use chi_ids::CacheLine;
 use chi_trace::AnySeen;
 use indexmap::IndexMap;
 use std::alloc::{AllocError, Allocator};

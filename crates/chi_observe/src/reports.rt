@@ -5,13 +5,13 @@ ghost use Rattle.chi_observe.specs.Pending.{is_open};
 ghost use Rattle.chi_observe.specs.Reports.{BeginsWith, IsOutcomeOf, IsReportText, accepted_line, ended_outcome, is_nothing_seen, numbered};
 ghost use Rattle.chi_observe.specs.Watched.{watched};
 
-use crate::ids::CacheLine;
 use crate::malformed::malformed_text;
 use crate::names::{LineName, NodeName, SeenName, joined, requester_of};
 use crate::seen::event_of;
 use crate::stream::{Notes, TextStop};
 use crate::texts::AsideText;
 use crate::watch::{Aside, Counts, Watch, WatchFault};
+use chi_ids::CacheLine;
 use chi_trace::{AnySeen, TraceFault};
 use std::alloc::{AllocError, Allocator};
 use std::fmt::Write;

@@ -4,9 +4,9 @@ ghost use Rattle.std.specs.Prelude.{◌≡◌, length};
 ghost use Rattle.chi_observe.specs.Seen.{access_event, answer_data_told, answer_told, completion_told, data_given, data_sent, down, event_of, kind_named, line_named, line_of, named_buffer, other_kind_named, other_snoop_named, profile_event, read_event, read_told, request_event, request_step, request_told, snoop_event, snoop_named, up, whole_written_told, word_of, written_told};
 
 use crate::events::{AccessEvent, Event, LineEvent, Tells};
-use crate::ids::{CacheLine, Sides};
 use crate::steps::IdStep;
 use chi_flit::{NO_DATA, State, WordNo};
+use chi_ids::{CacheLine, Sides};
 use chi_observer::{Act, Answer, Grant, Kind, Snoop, Word};
 use chi_trace::{
     Address, AnyFlit, AnySeen, Beat, DbId, Flit, NodeId, OtherKind, OtherSnoop, PcrdType,

@@ -7,10 +7,11 @@ ghost use Rattle.chi_observe.specs.Tables.{new_buffer, table_of};
 
 use crate::credits::{CreditEvent, CreditTypes};
 use crate::events::Tells;
-use crate::ids::{CacheLine, IdKey, OpenId, Purpose, Sides, find_id, opened_id};
+use crate::ids::{OpenId, Purpose, find_id, opened_id};
 use crate::judges::Log;
 use crate::reasons::IdReason;
 use crate::tables::{Change, Part, Tables, freed_key, plain_change, right_type};
+use chi_ids::{CacheLine, IdKey, Sides};
 use chi_observer::{Kind, Snoop, Stores};
 use chi_trace::{DbId, PcrdType, TxnId};
 use std::alloc::Allocator;

@@ -6,11 +6,11 @@ ghost use Rattle.chi_observe.specs.Streams.{AreLinesTaken, IsInputWatched, IsPie
 ghost use Rattle.chi_observe.specs.Watched.{watched};
 
 use crate::events::Event;
-use crate::ids::CacheLine;
 use crate::progress::Progress;
 use crate::recent::Recent;
 use crate::seen::event_of;
 use crate::watch::{Watch, WatchFault, WatchStop};
+use chi_ids::CacheLine;
 use chi_script::{Failed, Fault, Input, first_line};
 use chi_trace::{AnySeen, TraceFault, any_flit_in};
 use std::alloc::{AllocError, Allocator};

@@ -6,12 +6,11 @@ ghost use Rattle.chi_observe.specs.Tables.{booking_of, freed, freed_key, in_line
 
 use crate::credits::{AccountTable, Booking, CreditEvent, find_account};
 use crate::events::Tells;
-use crate::ids::{
-    CacheLine, IdKey, IdTable, OpenId, Purpose, Sides, find_id, is_alike, opened_id, sides_of,
-};
+use crate::ids::{IdTable, OpenId, Purpose, find_id, opened_id};
 use crate::lines::{LineTable, is_aside};
 use crate::reasons::IdReason;
 use crate::steps::WatchOptions;
+use chi_ids::{CacheLine, IdKey, Sides, is_alike, sides_of};
 use chi_trace::{DbId, PcrdType};
 use std::alloc::Allocator;
 

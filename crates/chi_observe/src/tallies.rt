@@ -10,9 +10,10 @@ ghost use Rattle.chi_observe.specs.Watched.{watched};
 
 use crate::benches::BenchWatch;
 use crate::credits::Account;
-use crate::ids::{IdKey, OpenId};
+use crate::ids::OpenId;
 use crate::pending::is_account_open;
 use crate::watch::{Counts, Watch};
+use chi_ids::IdKey;
 use std::alloc::Allocator;
 
 /// What an id is named by.

@@ -1,7 +1,7 @@
 //! Why a flit isn't taken, in words. No clause says these texts: they are tested.
 
 use crate::events::{AccessEvent, Event, LineEvent, Tells, flit_by};
-use crate::ids::{CacheLine, IdKey, OpenId, find_id};
+use crate::ids::{OpenId, find_id};
 use crate::judges::{Before, Judge};
 use crate::lines::{Lacking, LineSeen, home_of, lacks_of};
 use crate::marks::{is_known, teller_of};
@@ -14,6 +14,7 @@ use crate::tables::Part;
 use crate::watch::{Watch, WatchFault};
 use crate::words::words_with;
 use chi_flit::{Agent, Data};
+use chi_ids::{CacheLine, IdKey};
 use chi_observer::{
     AGENTS, Act, Aside, CacheFlit, Certainty, Due, Flit, HomeFlit, Kind, KnownWords, Observer,
     Reason, Told,

@@ -6,9 +6,10 @@ ghost use Rattle.chi_observe.specs.Unknown.{spent_if, turned, unknown_answer, un
 ghost use Rattle.chi_observe.specs.declared.credits.CreditEvent.TheVariants as events;
 
 use crate::credits::{Booking, CreditEvent};
-use crate::ids::{CacheLine, IdKey, OpenId, Purpose, Sides, find_id, opened_id};
+use crate::ids::{OpenId, Purpose, find_id, opened_id};
 use crate::reasons::IdReason;
 use crate::tables::{Change, Tables, in_line, plain_change, unknown_id};
+use chi_ids::{CacheLine, IdKey, Sides};
 use chi_trace::{DbId, PcrdType, TxnId};
 use std::alloc::Allocator;
 

@@ -8,11 +8,11 @@ ghost use Rattle.chi_observe.specs.Lines.{lines_in};
 ghost use Rattle.chi_observe.specs.Grants.{granted, returned};
 ghost use Rattle.chi_observe.specs.Steps.{ids_after};
 ghost use Rattle.chi_observe.specs.Tables.{table_of};
-ghost use Rattle.chi_observe.specs.Watched.{IsCreditWatched, IsFlitWatched, IsWatched, agent_in, allowed, booking_after, counts_access, counts_after, counts_aside, counts_first, early_in, mark_if, nothing_watched, ready, settled, table_in, watched, with_early};
+ghost use Rattle.chi_observe.specs.Watched.{IsCreditWatched, IsFlitWatched, IsWatched, agent_in, all_ready, allowed, changed, booking_after, counts_access, counts_after, counts_aside, counts_first, early_in, mark_if, nothing_watched, settled, table_in, watched, with_early};
 
 use crate::credits::{AccountTable, Booking, account_numbers};
 use crate::events::{Event, LineEvent, Tells, flit_by, news_of};
-use crate::ids::{CacheLine, IdKey, IdTable, Later, OpenId, Sides, numbers_of};
+use crate::ids::{IdTable, Later, OpenId};
 use crate::judges::Before;
 use crate::left_over::close_id;
 use crate::lines::{LineStop, LineTable, LineTold, SpareMarks, tell};
@@ -21,6 +21,7 @@ use crate::reasons::{IdReason, LineReason};
 use crate::steps::WatchOptions;
 use crate::tables::{Change, Part, Tables};
 use chi_flit::{Agent, Data};
+use chi_ids::{CacheLine, IdKey, Sides, numbers_of};
 use chi_trace::{NodeId, PcrdType};
 use indexmap::IndexMap;
 use std::alloc::{AllocError, Allocator};
@@ -174,23 +175,15 @@ pub(crate) fn mark_of(told: LineTold, line: CacheLine, number: usize) -> Option<
     }
 }
 
-/// The change by a first beat of data that tell this with all words, with the words for its later ones.
-fn early_change(told: Tells, later: Later, change: Change) -> Change
-    ensures { result ≡ with_early told later change }
+/// The change is by a first beat of data that tell this with all words, which are kept for its later ones.
+fn make_early(change: &mut Change, told: Tells, later: Later)
+    ensures { change.new ≡ with_early told later change.old }
 {
-    let keeps = match change.keeps {
-        Some(id) => Some(OpenId {
-            begun: Some(told),
-            later,
-            ..id
-        }),
-        None => None,
-    };
-    Change {
-        keeps,
-        part: Part::Known(told),
-        ..change
+    if let Some(id) = &mut change.keeps {
+        id.begun = Some(told);
+        id.later = later;
     }
+    change.part = Part::Known(told);
 }
 
 /// The account has one more.
@@ -298,19 +291,26 @@ impl<A: Allocator> Watch<A> {
         }
     }
 
-    /// What a flit of a line does to ids and credits, or why they don't allow it.
-    pub(crate) fn allowed(&self, event: &LineEvent) -> Result<Change, IdReason>
-        ensures { result ≡ allowed (watched self.now) event.now }
+    /// What a flit of a line does to ids and credits, or why they don't allow it; of data the first beat alone.
+    pub(crate) fn changed(&self, event: &LineEvent) -> Result<Change, IdReason>
+        ensures { result ≡ changed (watched self.now) event.now }
     {
         match event.tells {
             Tells::NoForm(resp) => Err(IdReason::Form(resp)),
             Tells::Sent(_, _) | Tells::Given(_, _) | Tells::Unjudged => {
-                let change = self
-                    .tables()
-                    .change(event.sides, &event.step, event.at, event.tells)?;
-                Ok(self.ready(event, change))
+                self.tables()
+                    .change(event.sides, &event.step, event.at, event.tells)
             }
         }
+    }
+
+    /// The same, with all words of data whose words are known at their first beat.
+    pub(crate) fn allowed(&self, event: &LineEvent) -> Result<Change, IdReason>
+        ensures { result ≡ allowed (watched self.now) event.now }
+    {
+        let mut allowed = self.changed(event);
+        self.make_ready(event, &mut allowed);
+        allowed
     }
 
     /// The agent that a flit's requester is; none where the flit isn't judged.
@@ -341,20 +341,18 @@ impl<A: Allocator> Watch<A> {
         }
     }
 
-    /// The same, of data whose words are known at their first beat with all words.
-    fn ready(&self, event: &LineEvent, change: Change) -> Change
-        ensures { result ≡ ready (watched self.now) event.now change }
+    /// Data whose words are known at their first beat have all words.
+    pub(crate) fn make_ready(&self, event: &LineEvent, changed: &mut Result<Change, IdReason>)
+        ensures { changed.new ≡ all_ready (watched self.now) event.now changed.old }
     {
-        let early = match &change.part {
-            Part::First(lacks) => self.early_in(event, change.line, lacks),
-            _ => None,
+        let Ok(change) = changed else {
+            return;
         };
-        match early {
-            Some(early) => {
+        if let Part::First(lacks) = &change.part {
+            if let Some(early) = self.early_in(event, change.line, lacks) {
                 let words = early.1;
-                early_change(event.tells.with_words(words), early.0, change)
+                make_early(change, event.tells.with_words(words), early.0);
             }
-            None => change,
         }
     }
 
@@ -460,7 +458,9 @@ impl<A: Allocator + Copy> Watch<A> {
     fn take_line(&mut self, event: &LineEvent) -> Result<(), WatchStop>
         ensures { IsWatched (watched self.old) (watched self.new) (Event.Line event.now) result }
     {
-        match &self.allowed(event) {
+        let mut changed = self.changed(event);
+        self.make_ready(event, &mut changed);
+        match &changed {
             Ok(change) => self.take_allowed(event, change),
             Err(reason) => self.take_unopened(event, *reason),
         }

@@ -2,9 +2,10 @@
 use Rattle.std.proofs.Common.{◌≡◌, sym, ap, ◌∙◌}
 use Rattle.std.specs.Prelude.{Option}
 use Rattle.indexmap.specs.IndexMap.{swap_remove_entry}
-use Rattle.chi_observe.specs.declared.ids.IdKey.{IdKey}
-use Rattle.chi_observe.specs.declared.ids.KeyNumbers.{KeyNumbers}
-use Rattle.chi_observe.specs.Ids.{is_same_numbers, without}
+use Rattle.chi_ids.specs.declared.keys.IdKey.{IdKey}
+use Rattle.chi_ids.specs.declared.keys.KeyNumbers.{KeyNumbers}
+use Rattle.chi_ids.specs.Keys.{is_same_numbers}
+use Rattle.chi_observe.specs.Ids.{without}
 use Rattle.chi_observe.proofs.watch.free_id.Goals as goal
 
 pub returns-in-Some : goal.returns-in-Some
