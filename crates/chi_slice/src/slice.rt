@@ -348,6 +348,12 @@ impl<A: Allocator> Slice<A> {
         ensures computed { ComputedUnder credits self.old action result self.new }
         ensures err { OnErr result (self.new ≡ self.old) }
     {
+        // (built here its parts stay in registers)
+        let action = Action {
+            agent: action.agent,
+            line: action.line,
+            step: action.step,
+        };
         let conditions = self.conditions(action, credits);
         let line = &mut self.lines[usize::from(row)];
         let outcome = line.act(conditions, action)?;
