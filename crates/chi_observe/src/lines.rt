@@ -243,7 +243,8 @@ impl<A: Allocator> LineSeen<A> {
         flit: Option<Flit>,
         number: usize,
     ) -> Result<(), LineStop>
-        ensures { IsFlitTold (before_of before.now) (line_state self.old) (line_state self.new) number home flit result }
+        ensures { IsFlitTold (before_of before.now) (line_state self.old) (line_state self.new)
+            number home flit result }
     {
         let Some(flit) = flit else {
             self.set_aside();
@@ -325,7 +326,8 @@ impl<A: Allocator> LineSeen<A> {
         lacking: Lacking,
         number: usize,
     ) -> Result<(), LineStop>
-        ensures { IsShownTold (before_of before.now) (line_state self.old) (line_state self.new) number home flit lacks.now lacking result }
+        ensures { IsShownTold (before_of before.now) (line_state self.old) (line_state self.new)
+            number home flit lacks.now lacking result }
     {
         let whole = self.presented(flit, lacks);
         self.take_flit(before, home, Some(whole), number)?;
@@ -344,7 +346,8 @@ impl<A: Allocator> LineSeen<A> {
         lacks: &[bool; 8],
         number: usize,
     ) -> Result<(), LineStop>
-        ensures { IsBegunTold (before_of before.now) (line_state self.old) (line_state self.new) number home flit lacks.now result }
+        ensures { IsBegunTold (before_of before.now) (line_state self.old) (line_state self.new)
+            number home flit lacks.now result }
     {
         let known = self.judge.told_words(flit);
         let given = is_given(flit);
@@ -365,7 +368,8 @@ impl<A: Allocator> LineSeen<A> {
         flit: Option<Flit>,
         number: usize,
     ) -> Result<(), LineStop>
-        ensures { IsHeldTold (before_of before.now) (line_state self.old) (line_state self.new) number home flit result }
+        ensures { IsHeldTold (before_of before.now) (line_state self.old) (line_state self.new)
+            number home flit result }
     {
         self.take_flit(before, home, flit, number)?;
         self.lacking = Lacking::Nothing;
@@ -403,7 +407,8 @@ impl<A: Allocator> LineSeen<A> {
         flit: Option<Flit>,
         number: usize,
     ) -> Result<(), LineStop>
-        ensures { IsEndTold (before_of before.now) (line_state self.old) (line_state self.new) number home flit result }
+        ensures { IsEndTold (before_of before.now) (line_state self.old) (line_state self.new)
+            number home flit result }
     {
         match self.lacking {
             Lacking::Nothing => self.end_held(before, home, flit, number),
@@ -471,7 +476,8 @@ impl<A: Allocator> LineSeen<A> {
         flit: Option<Flit>,
         number: usize,
     ) -> Result<(), LineStop>
-        ensures { IsBetweenTold (before_of before.now) (line_state self.old) (line_state self.new) number home flit result }
+        ensures { IsBetweenTold (before_of before.now) (line_state self.old) (line_state self.new)
+            number home flit result }
     {
         if self.is_showing(&flit) {
             if let Some(flit) = flit {
@@ -495,7 +501,8 @@ impl<A: Allocator> LineSeen<A> {
         flit: Flit,
         number: usize,
     ) -> Result<(), LineStop>
-        ensures { IsEarlyTold (before_of before.now) (line_state self.old) (line_state self.new) number home flit result }
+        ensures { IsEarlyTold (before_of before.now) (line_state self.old) (line_state self.new)
+            number home flit result }
     {
         let words = self.marks.words;
         self.take_between(before, home, Some(flit), number)?;
