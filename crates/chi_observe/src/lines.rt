@@ -294,14 +294,14 @@ impl<A: Allocator> LineSeen<A> {
     pub(crate) fn presented(&self, flit: Flit, lacks: &[bool; 8]) -> Flit
         ensures { result ≡ presented (line_state self.now) flit lacks.now }
     {
-        let own = shown_by(flit);
+        let own = shown_words(flit);
         let home = match &self.judge.observer().home {
             Some(home) => *home,
             None => own,
         };
         let known = with_known(&home, &self.judge.told_words(flit));
         let filled = words_with(&own, &known, lacks);
-        with_words(flit, words_with(&filled, &home, &self.lacking.unknown()))
+        with_shown(flit, words_with(&filled, &home, &self.lacking.unknown()))
     }
 
     /// The home has the words that this flit was the first to show.
@@ -312,7 +312,7 @@ impl<A: Allocator> LineSeen<A> {
             return;
         };
         let there = left_of(&self.lacking.unknown(), lacks);
-        let words = words_with(home, &shown_by(flit), &there);
+        let words = words_with(home, &shown_words(flit), &there);
         self.judge.show(words);
     }
 
@@ -386,7 +386,7 @@ impl<A: Allocator> LineSeen<A> {
             self.set_aside();
             return Ok(());
         };
-        let words = shown_by(flit);
+        let words = shown_words(flit);
         let unknown = self.lacking.unknown();
         if !self.aside && !agrees(&unknown, &self.judge.observer().home, &words) {
             return Err(LineStop::Refused(LineReason::Rule(Reason::OtherWords)));
@@ -516,13 +516,13 @@ impl<A: Allocator> LineSeen<A> {
         ensures { result ≡ early_of (line_state self.now) flit lacks.now }
     {
         match self.wanted(flit) {
-            Wanted::Free => Some((Later::Free, shown_by(flit))),
+            Wanted::Free => Some((Later::Free, shown_words(flit))),
             Wanted::Known => {
                 if !self.lacking.is_known() {
                     return None;
                 }
                 let home = self.judge.observer().home?;
-                Some((Later::Held, words_with(&shown_by(flit), &home, lacks)))
+                Some((Later::Held, words_with(&shown_words(flit), &home, lacks)))
             }
             Wanted::Any => None,
             Wanted::Nothing => None,
@@ -570,7 +570,7 @@ impl<A: Allocator> LineSeen<A> {
 }
 
 /// The words of a flit: a load's word in the place of each.
-fn shown_by(flit: Flit) -> Data
+fn shown_words(flit: Flit) -> Data
     ensures { result ≡ shown_words flit }
 {
     match flit {
@@ -593,7 +593,7 @@ fn word_in(words: &Data, place: WordNo) -> u64
 }
 
 /// The flit with these words; a load with that of its place.
-fn with_words(flit: Flit, words: Data) -> Flit
+fn with_shown(flit: Flit, words: Data) -> Flit
     ensures { result ≡ with_shown flit words }
 {
     match flit {
