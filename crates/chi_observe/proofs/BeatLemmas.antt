@@ -19,13 +19,14 @@ use Rattle.chi_observer.specs.Lines.{Watched, is_taken, watch}
 use Rattle.chi_observer.specs.Wanted.{AnyWordsAreTaken, FreeWordsAreTaken, KnownWordsAreTaken, WordlessFlitsAreApart, flit_with, flit_words, is_wordless, reads_home, tells_cancelled, wanted, wanted_given, wanted_if, wanted_sent, with_home}
 use Rattle.chi_observe.specs.declared.ids.Later.{Later}
 use Rattle.chi_observe.specs.declared.ids.Later.TheVariants as laters
-use Rattle.chi_observe.specs.declared.lines.Lacking.{Lacking}
-use Rattle.chi_observe.specs.declared.lines.Lacking.TheVariants as lacks
+use Rattle.chi_observe.specs.declared.lacking.Lacking.{Lacking}
+use Rattle.chi_observe.specs.declared.lacking.Lacking.TheVariants as lacks
 use Rattle.chi_observe.specs.declared.lines.LineNews.{LineNews}
 use Rattle.chi_observe.specs.declared.lines.LineNews.TheVariants as news
 use Rattle.chi_observe.specs.Judges.{Before, Judged, known_if}
 use Rattle.chi_observe.specs.Judges.Judged.{FromStart}
-use Rattle.chi_observe.specs.Lines.{LineState, apart_of, begun_next, early_by, early_of, flit_next, is_given, is_passed, is_wanted_free, is_wanted_known, lacking_shown, lacking_with, lacks_of, line_next, marked_words, may_show, next_by, presented, put_aside, shown_more, shown_next, shown_words, showing_by, takes_begun, takes_flit, takes_line, wanted_of, with_shown}
+use Rattle.chi_observe.specs.Lacking.{lacking_shown, lacking_with, may_show}
+use Rattle.chi_observe.specs.Lines.{LineState, apart_of, begun_next, early_by, early_of, flit_next, is_given, is_passed, is_wanted_free, is_wanted_known, lacks_of, line_next, marked_words, next_by, presented, put_aside, shown_more, shown_next, shown_words, showing_by, takes_begun, takes_flit, takes_line, wanted_of, with_shown}
 use Rattle.chi_observe.specs.Marks.{Marked, marks_after, shows_words}
 use Rattle.chi_observe.specs.InBeats.{AreAlike, BeatsAreOneFlit, all_wordless, behind_all, in_one, in_two, is_told_any, judged_line, takes_all, told_of}
 use Rattle.chi_observe.specs.Words.{agrees, agrees_word, but_known, left_of, none_lack, with_known, word_at, word_with, words_with}

@@ -16,9 +16,9 @@ use Rattle.chi_observe.specs.Lines.{LineState}
 use Rattle.chi_observe.specs.Marks.{Marked}
 use Rattle.chi_observe.specs.Watched.{Watched}
 use Rattle.chi_observe.specs.contracts.bounded.RoomPartialEq.TheImpl as room_eq
-use Rattle.chi_observe.specs.contracts.lines.LackingPartialEq.TheImpl as lacking_eq
-use Rattle.chi_observe.specs.declared.lines.Lacking.{Lacking}
-use Rattle.chi_observe.specs.declared.lines.Lacking.TheVariants as lacks
+use Rattle.chi_observe.specs.contracts.lacking.LackingPartialEq.TheImpl as lacking_eq
+use Rattle.chi_observe.specs.declared.lacking.Lacking.{Lacking}
+use Rattle.chi_observe.specs.declared.lacking.Lacking.TheVariants as lacks
 use Rattle.chi_observe.proofs.EqualFlits.{mark, marks, node}
 use Rattle.chi_observe.proofs.EqualIds.{room}
 

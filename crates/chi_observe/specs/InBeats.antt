@@ -9,7 +9,7 @@ use Rattle.chi_observer.specs.Lines.{Watched}
 use Rattle.chi_observer.specs.Wanted.{flit_with, flit_words, is_wordless, wanted}
 use Rattle.chi_observe.specs.declared.ids.Later.{Later}
 use Rattle.chi_observe.specs.declared.ids.Later.TheVariants as laters
-use Rattle.chi_observe.specs.declared.lines.Lacking.TheVariants as lacks
+use Rattle.chi_observe.specs.declared.lacking.Lacking.TheVariants as lacks
 use Rattle.chi_observe.specs.declared.lines.LineNews.{LineNews}
 use Rattle.chi_observe.specs.declared.lines.LineNews.TheVariants as news
 use Rattle.chi_observe.specs.Judges.{Before}

@@ -9,6 +9,7 @@ pub mod Grants
 pub mod Marks
 pub mod Judges
 pub mod LeftOver
+pub mod Lacking
 pub mod Lines
 pub mod Events
 pub mod Nodes

@@ -20,7 +20,8 @@ use crate::bounded::BoundedWatch;
 use crate::credits::AccountTable;
 use crate::ids::IdTable;
 use crate::judges::{BegunLine, Judge};
-use crate::lines::{Lacking, LineSeen, LineTable};
+use crate::lacking::Lacking;
+use crate::lines::{LineSeen, LineTable};
 use crate::marks::Marks;
 use crate::watch::Watch;
 use chi_observer::{

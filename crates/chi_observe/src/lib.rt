@@ -15,6 +15,7 @@ mod facts;
 mod grants;
 mod ids;
 mod judges;
+mod lacking;
 mod laws;
 mod left_over;
 mod lines;

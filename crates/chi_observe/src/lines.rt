@@ -5,10 +5,11 @@ ghost use Rattle.std.specs.Map.{lookup};
 ghost use Rattle.chi_observe.specs.declared.lines.LineStop.TheVariants as stops;
 ghost use Rattle.chi_observer.specs.ListedLines.{words_of};
 ghost use Rattle.chi_observe.specs.Judges.{before_of};
-ghost use Rattle.chi_observe.specs.Lines.{IsBegunTold, IsBetweenTold, IsEarlyTold, IsEndTold, IsFlitTold, IsHeldTold, IsHoldTold, IsLastTold, IsLineTold, IsShownTold, IsTold, early_of, held_next, home_of, is_apart, is_aside, is_given, is_known_lacking, is_put_aside, is_showing, is_wanted_free, is_wanted_known, lacking_shown, lacking_with, lacking_without, lacks_of, line_state, lines_in, marked_next, may_show, opened_line, presented, put_aside, shown_more, shown_words, shows_home, unknown_in, wanted_of, with_shown, word_in};
+ghost use Rattle.chi_observe.specs.Lines.{IsBegunTold, IsBetweenTold, IsEarlyTold, IsEndTold, IsFlitTold, IsHeldTold, IsHoldTold, IsLastTold, IsLineTold, IsShownTold, IsTold, early_of, held_next, home_of, is_apart, is_aside, is_given, is_put_aside, is_showing, is_wanted_free, is_wanted_known, lacks_of, line_state, lines_in, marked_next, opened_line, presented, put_aside, shown_more, shown_words, shows_home, wanted_of, with_shown, word_in};
 
 use crate::ids::Later;
 use crate::judges::{Before, Judge};
+use crate::lacking::Lacking;
 use crate::marks::{Marks, shows_some, teller_of};
 use crate::reasons::LineReason;
 use crate::words::{
@@ -39,109 +40,6 @@ pub(crate) struct LineSeen<A: Allocator> {
     pub judge: Judge<A>,
     /// By which lines of the trace.
     pub marks: Marks<A>,
-}
-
-/// What data of a line lack.
-/// Source: `docs/OBSERVER.md`, "Data in beats".
-#[derive(Clone, Copy, Debug, PartialEq, Eq)]
-pub(crate) enum Lacking {
-    /// Nothing.
-    Nothing,
-    /// Words without which the line isn't told of the data: where another flit comes, it isn't judged any more.
-    Data,
-    /// Words of the value that the line was told of at the first beat of its data: those that no flit has shown yet, which
-    /// are any. So many other data lack words of it too; and the home had them before, or gets them by these data.
-    Words([bool; 8], u8, bool),
-}
-
-impl Lacking {
-    /// What lacks behind the first beat of data, which the home sends or doesn't, that lack such words, and of whose words
-    /// this is wanted; `None` where the line isn't told of them yet.
-    fn with(
-        self,
-        wanted: Wanted,
-        given: bool,
-        lacks: &[bool; 8],
-        known: &KnownWords,
-    ) -> Option<Lacking>
-        ensures { result ≡ lacking_with self wanted given lacks.now (words_of known.now) }
-    {
-        match (self, wanted) {
-            (Lacking::Nothing, Wanted::Any) => {
-                Some(Lacking::Words(but_known(lacks, known), 0, given))
-            }
-            (Lacking::Words(unknown, others, had), Wanted::Known) => {
-                if !self.may_show(given, lacks) {
-                    return None;
-                }
-                let others = others.checked_add(1)?;
-                Some(Lacking::Words(unknown_behind(&unknown, lacks), others, had))
-            }
-            _ => None,
-        }
-    }
-
-    /// Whether data that lack such words, which the home sends or doesn't, may show the others: the home not before it has
-    /// them.
-    fn may_show(&self, given: bool, lacks: &[bool; 8]) -> bool
-        ensures { result ≡ may_show self.now given lacks.now }
-    {
-        match self {
-            Lacking::Nothing => true,
-            Lacking::Data => true,
-            Lacking::Words(unknown, _, had) => !given
-                || (*had || !lacks_some(&left_of(unknown, lacks))),
-        }
-    }
-
-    /// What lacks behind the last beat of data.
-    fn without(self) -> Lacking
-        ensures { result ≡ lacking_without self }
-    {
-        match self {
-            Lacking::Words(_, others, had) => match others.checked_sub(1) {
-                Some(others) => Lacking::Words([false; 8], others, had),
-                None => Lacking::Nothing,
-            },
-            Lacking::Nothing => Lacking::Nothing,
-            Lacking::Data => Lacking::Nothing,
-        }
-    }
-
-    /// The words that no flit has shown yet.
-    pub(crate) fn unknown(&self) -> [bool; 8]
-        ensures { result ≡ unknown_in self.now }
-    {
-        match self {
-            Lacking::Nothing => [false; 8],
-            Lacking::Data => [false; 8],
-            Lacking::Words(unknown, _, _) => *unknown,
-        }
-    }
-
-    /// Whether all words are known that the line was told of.
-    fn is_known(&self) -> bool
-        ensures { result ≡ is_known_lacking self.now }
-    {
-        match self {
-            Lacking::Nothing => true,
-            Lacking::Data => false,
-            Lacking::Words(unknown, _, _) => !lacks_some(unknown),
-        }
-    }
-
-    /// The same behind a flit that lacks such words, but no word of it lacks.
-    fn shown(self, lacks: &[bool; 8]) -> Lacking
-        ensures { result ≡ lacking_shown self lacks.now }
-    {
-        match self {
-            Lacking::Words(unknown, others, had) => {
-                Lacking::Words(unknown_behind(&unknown, lacks), others, had)
-            }
-            Lacking::Nothing => Lacking::Nothing,
-            Lacking::Data => Lacking::Data,
-        }
-    }
 }
 
 /// What a line is told of.

@@ -3,7 +3,8 @@
 use crate::events::{AccessEvent, Event, LineEvent, Tells, flit_by};
 use crate::ids::{OpenId, find_id};
 use crate::judges::{Before, Judge};
-use crate::lines::{Lacking, LineSeen, home_of, lacks_of};
+use crate::lacking::Lacking;
+use crate::lines::{LineSeen, home_of, lacks_of};
 use crate::marks::{is_known, teller_of};
 use crate::names::{GIVEN, KeyName, LineName, NodeName, SENT, ToldName};
 use crate::nodes::agent_of;
