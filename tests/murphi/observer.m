@@ -283,11 +283,17 @@ function fits_stored(v: value): boolean;
 begin return current | stored = unknown | stored = v; end;
 
 -- The word of a load: any where a store may have been that nobody saw, if only behind a CompAck.
-function may_load(n: agent; v: value): boolean;
+function may_load_any(n: agent): boolean;
 begin
-  return (hidden & is_unique(strongest(lanes[n].told)) & (may_be_free(lanes[n].due) | lanes[n].due = Acknowledgement))
-    | ((!current | fits(v)) & fits_stored(v));
+  return hidden & is_unique(strongest(lanes[n].told)) & (may_be_free(lanes[n].due) | lanes[n].due = Acknowledgement);
 end;
+
+function may_load(n: agent; v: value): boolean;
+begin return may_load_any(n) | ((!current | fits(v)) & fits_stored(v)); end;
+
+-- Which tells of that store where it isn't the home's.
+function tells_store(n: agent; v: value): boolean;
+begin return may_load_any(n) & has_data(strongest(lanes[n].told)) & current & !fits(v); end;
 
 function may_be_stored(m: agent; tells: boolean): boolean;
 begin return hidden & !tells & may_be_free(lanes[m].due) & is_unique(strongest(lanes[m].told)); end;
@@ -519,7 +525,7 @@ ruleset n: agent do
       (has_data(strongest(lanes[n].told)) | (hidden & may_be_free(lanes[n].due) & is_unique(strongest(lanes[n].told))))
       & may_load(n, lanes[n].word);
     if !hidden & !current then stored := lanes[n].word; end;
-    if strongest(lanes[n].told) = UCE then
+    if strongest(lanes[n].told) = UCE | tells_store(n, lanes[n].word) then
       current := false;
       if lanes[n].due = Resending then lanes[n].surely := true; end;
       lanes[n].told := ToldUD;

@@ -6,10 +6,11 @@ cache is legal where some world lets its cache send it. A flit of the home is le
 own copy, it is safe in every world with that value. Nothing of what the observer keeps stands here.
 
 A flit is a tuple: ("cache" or "home", the agent, what it does, and with which words). A load and a store are flits of a
-cache with a place in the line and a word. Where stores may be hidden each place has another word in each value: a load is
-legal where some copy has its word, and nothing more is learnt of it, nor of what a store writes. Where all stores are
-listed no hidden step is a store, and a value is made of its words, two for each place. A load leaves the worlds whose copy
-has its word; a store makes its word, and keeps those of the other places where the copy has data. Besides these a value has
+cache with a place in the line and a word. A load leaves the worlds whose copy has its word. Where stores may be hidden each
+place has another word in each value, and other worlds are left too: where a store that nobody saw may be done, if only behind
+the CompAck, those that it makes; and of a dirty copy whose request is open those of any value, if some has the word. What a
+store writes isn't learnt. Where all stores are listed no hidden step is a store, and a value is made of its words, two for
+each place: a store makes its word, and keeps those of the other places where the copy has data. Besides these a value has
 a part of two that no load and no store names, of which flits show the first alone: behind a store it is any, so only data
 show that the home has the value.
 """
@@ -200,15 +201,17 @@ class Line:
     def word_at(self, value, place):
         return value >> place & 1 if self.listed else value
 
-    def load(self, world, agent, place, word):
-        has_word = not self.listed or self.word_at(world.last, place) == word
-        return world if world.copies[agent] in ("SC", "SD", "UC", "UD") and has_word else None
-
-    def reads(self, world, agent, place, word):
-        """Whether the copy has the word, or may have any: where a hidden store may be done, if only behind a CompAck."""
-        request = world.requests[agent]
-        open_to_stores = world.copies[agent] in ("UC", "UD") and (not request or request.phase == "ack")
-        return self.word_at(world.last, place) == word or (open_to_stores and not self.listed)
+    def loaded(self, agent, place, word):
+        """The worlds behind a load, before hidden steps; none where it isn't legal."""
+        holding = [it for it in self.worlds if it.copies[agent] in ("SC", "SD", "UC", "UD")]
+        reading = {it for it in holding if self.word_at(it.last, place) == word}
+        if self.listed:
+            return reading
+        open_to_stores = [it for it in holding if it.copies[agent] in ("UC", "UD")
+                          and (not it.requests[agent] or it.requests[agent].phase == "ack")]
+        stored = {made for it in open_to_stores if it not in reading for made in self.store(it, agent, place, word)}
+        waiting = {it for it in holding if it.copies[agent] == "UD" and it not in open_to_stores}
+        return reading | stored | (waiting if waiting & reading else set())
 
     def store(self, world, agent, place, word):
         request, copy = world.requests[agent], world.copies[agent]
@@ -299,13 +302,12 @@ class Line:
     def worlds_behind(self, flit):
         """The worlds behind it, before hidden steps; none where it isn't legal."""
         side, agent, what, *words = flit
-        act = getattr(self, what)
         if side == "cache":
-            made = [one for world in self.worlds if (one := act(world, agent, *words))]
-            if what == "load" and not any(self.reads(world, agent, *words) for world in made):
-                return set()
+            if what == "load":
+                return self.loaded(agent, *words)
+            made = [one for world in self.worlds if (one := getattr(self, what)(world, agent, *words))]
             return {it for one in made for it in (one if isinstance(one, list) else [one])}
-        return behind_home(self.worlds, is_coherent, act, agent, what, words)
+        return behind_home(self.worlds, is_coherent, getattr(self, what), agent, what, words)
 
     def behind(self, flit) -> Optional["Line"]:
         """The line behind the flit, or None where the flit isn't legal."""

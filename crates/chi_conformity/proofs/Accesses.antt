@@ -50,7 +50,7 @@ valid_holds UC h = refl
 valid_holds UD h = refl
 valid_holds SD h = refl
 
-valid_held : (state : State) (given : Option CompData) (response : Option RspDown) → is_valid state ≡ true → holds_data (copy_held state given response) ≡ true
+pub valid_held : (state : State) (given : Option CompData) (response : Option RspDown) → is_valid state ≡ true → holds_data (copy_held state given response) ≡ true
 valid_held state (Some sent) response h = filled_holds sent.unique
 valid_held state None (Some CompUC) h = upgraded_holds state h
 valid_held state None other h = valid_holds state h
@@ -62,14 +62,14 @@ loaded s n word = record { place = word; value = word_of (rn_of s n) word.0 }
 same_number : (n : ℕ) → (n == n) ≡ true
 same_number n = grind arith
 
-loaded_word : (rn : Rn) (given : Option CompData) (word : WordNo) → given ≡ None → has_word (Load (record { place = word; value = word_of rn word.0 })) (words_by rn.words given) ≡ true
+pub loaded_word : (rn : Rn) (given : Option CompData) (word : WordNo) → given ≡ None → has_word (Load (record { place = word; value = word_of rn word.0 })) (words_by rn.words given) ≡ true
 loaded_word rn given word none = rw none (same_number (word_of rn word.0))
 
 none_valid : (given : Option CompData) (state : State) → (is_some given ≡ true → state ≡ I) → is_valid state ≡ true → given ≡ None
 none_valid None state none valid = refl
 none_valid (Some sent) state none valid = no (sym (ap is_valid (none refl)) ∙ valid)
 
-no_data : (serving : Serving) (unique : Bool) (owner : Option Agent) (last : List ℕ) (n : ℕ) (x : Lane) → LaneKept serving unique owner last n x → is_valid x.rn.state ≡ true → x.flits.dat_down ≡ None
+pub no_data : (serving : Serving) (unique : Bool) (owner : Option Agent) (last : List ℕ) (n : ℕ) (x : Lane) → LaneKept serving unique owner last n x → is_valid x.rn.state ≡ true → x.flits.dat_down ≡ None
 no_data serving unique owner last n x k valid = none_valid x.flits.dat_down x.rn.state k.read_finds_none valid
 
 -- a load

@@ -18,6 +18,7 @@ use Rattle.chi_observer.specs.Rules.{acts, allows, due_after, has_data, has_word
 use Rattle.chi_observer.specs.Tables.{Known, fresh, reach, told_after}
 use Rattle.chi_observer.specs.Worlds.{Sends, World, put}
 use Rattle.chi_observer.specs.Observed.{Meaning, Observed, differs, next, takes}
+use Rattle.chi_observer.specs.Counted.{CountedLoadsAreTaken, CountedLoadsLead}
 use Rattle.chi_observer.specs.Laws.{MeaningIsClosed, CacheFlitsAreTaken, CacheFlitsLead, CacheFlitsKeepSound, HomeFlitsKeepSound, HomeFlitsLead}
 use Rattle.chi_conformity.specs.Seen.{snoop_seen}
 use Rattle.chi_conformity.proofs.Held.{Beside, Stands, held, is_given_up, words_held, world_of}
@@ -29,6 +30,8 @@ pub record Laws : Type 0 where
   pub taken : CacheFlitsAreTaken
   pub leads : CacheFlitsLead
   pub kept : CacheFlitsKeepSound
+  pub counted_taken : CountedLoadsAreTaken
+  pub counted_lead : CountedLoadsLead
   pub home_kept : HomeFlitsKeepSound
   pub home_leads : HomeFlitsLead
 

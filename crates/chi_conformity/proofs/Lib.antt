@@ -22,4 +22,5 @@ mod Snoops
 mod Steps
 mod Words
 mod StepWords
+mod Counted
 mod Runs

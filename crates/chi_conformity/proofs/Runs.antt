@@ -37,7 +37,8 @@ use Rattle.chi_observer.specs.Copies.Copy.{Invalid}
 use Rattle.chi_observer.specs.declared.flits.Flit.{Flit}
 use Rattle.chi_observer.specs.declared.flits.Stores.{Stores}
 use Rattle.chi_observer.specs.declared.flits.Stores.TheVariants.{Listed as AllListed}
-use Rattle.chi_observer.specs.Lines.{Watched, is_taken, nothing_watched, watch}
+use Rattle.chi_observer.specs.Lines.{Watched, nothing_watched}
+use Rattle.chi_observer.specs.Counted.{takes_counted, watch_counted}
 use Rattle.chi_observer.specs.ListedLines.{is_taken_listed, nothing_listed, watch_listed}
 use Rattle.chi_observer.specs.Rules.{plain}
 use Rattle.chi_observer.specs.Runs.{nothing_told}
@@ -47,7 +48,7 @@ use Rattle.chi_conformity.specs.Seen.{snoop_seen, step_seen}
 use Rattle.chi_conformity.proofs.Held.{DueIs, Stands, held, held_of}
 use Rattle.chi_conformity.proofs.Flits.{Laws}
 use Rattle.chi_conformity.proofs.Put.{differ}
-use Rattle.chi_conformity.proofs.Steps.{step_follows}
+use Rattle.chi_conformity.proofs.Counted.{step_follows_counted}
 use Rattle.chi_conformity.proofs.StepWords.{step_follows_by_word}
 use Rattle.chi_conformity.proofs.Words.{StandsByWord}
 use Rattle.chi_conformity.proofs.Taken.{FollowsBy, taken_more}
@@ -176,8 +177,8 @@ opening_long config index l here = words_long (nat_lt 0 config.journal) config.l
 
 pub conform : Laws → SlicesConform
 conform laws z config index actions l limits within here =
-    run_taken is_taken watch (λ last s (w : Watched). Stands last s w.seen)
-    (λ c last s agent line step w low placed. step_follows laws c last s agent line step w low)
+    run_taken takes_counted watch_counted (λ last s (w : Watched). Stands last s w.seen)
+    (step_follows_counted laws)
     actions l (opening_slice config index) (nothing_watched z) (opening_kept config index limits within) here (opening_line_stands z config index l limits within here)
 
 pub conform_by_word : Laws → SlicesConformByWord

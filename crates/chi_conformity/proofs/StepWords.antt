@@ -93,7 +93,7 @@ is_access_step (steps.Load word) = true
 is_access_step (steps.Store word value) = true
 is_access_step other = false
 
-plain_step : (profile : Profile) (s : LineState) (n : Agent) (step : Step) → is_access_step step ≡ false → is_plain (step_seen profile s n step) ≡ true
+pub plain_step : (profile : Profile) (s : LineState) (n : Agent) (step : Step) → is_access_step step ≡ false → is_plain (step_seen profile s n step) ≡ true
 plain_step profile s n (steps.Load word) h = no (sym h)
 plain_step profile s n (steps.Store word value) h = no (sym h)
 plain_step profile s n (steps.Issue kind slot) h = refl

@@ -229,7 +229,7 @@ is_plain (Down g ∷ flits) = is_plain flits
 is_plain (Up f ∷ []) = not (is_access f.act)
 is_plain (Up f ∷ flit ∷ flits) = false
 
-not_access : (b : Bool) → not b ≡ true → b ≡ false
+pub not_access : (b : Bool) → not b ≡ true → b ≡ false
 not_access true h = no h
 not_access false h = refl
 

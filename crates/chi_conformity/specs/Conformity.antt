@@ -7,7 +7,8 @@ use Rattle.chi_slice.specs.Words.{Sizes, are_in_limits}
 use Rattle.chi_slice.specs.Slice.{SliceState, action_refusal, is_line_in_range, line, opening_slice, slice_after_try}
 use Rattle.chi_observer.specs.declared.flits.Flit.{Flit}
 use Rattle.chi_observer.specs.declared.flits.Stores.{Stores}
-use Rattle.chi_observer.specs.Lines.{Watched, is_taken, nothing_watched, watch}
+use Rattle.chi_observer.specs.Lines.{Watched, nothing_watched}
+use Rattle.chi_observer.specs.Counted.{takes_counted, watch_counted}
 use Rattle.chi_observer.specs.ListedLines.{WatchedListed, is_taken_listed, nothing_listed, watch_listed}
 use Rattle.chi_conformity.specs.Seen.{step_seen}
 
@@ -31,7 +32,7 @@ AreTakenBy takes behind w (flit ∷ flits) = (takes w flit ≡ true) × AreTaken
 
 -- by an observer, and by one that keeps the words that loads and stores tell
 abbrev pub AreTaken : Watched → List Flit → Type 0
-AreTaken w flits = AreTakenBy is_taken watch w flits
+AreTaken w flits = AreTakenBy takes_counted watch_counted w flits
 
 abbrev pub AreTakenByWord : WatchedListed → List Flit → Type 0
 AreTakenByWord w flits = AreTakenBy is_taken_listed watch_listed w flits

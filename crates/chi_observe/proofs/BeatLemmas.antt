@@ -15,7 +15,8 @@ use Rattle.chi_observer.specs.Rules.{gives_data, has_data, lets_go, looks, tells
 use Rattle.chi_observer.specs.Tables.{renews, shows_told}
 use Rattle.chi_observer.specs.Listed.{no_words}
 use Rattle.chi_observer.specs.Observed.{fits}
-use Rattle.chi_observer.specs.Lines.{Watched, is_taken, watch}
+use Rattle.chi_observer.specs.Lines.{Watched}
+use Rattle.chi_observer.specs.Counted.{may_tell, may_tell_store, takes_counted, watch_counted}
 use Rattle.chi_observer.specs.Wanted.{AnyWordsAreTaken, FreeWordsAreTaken, KnownWordsAreTaken, WordlessFlitsAreApart, flit_with, flit_words, is_wordless, reads_home, tells_cancelled, wanted, wanted_given, wanted_if, wanted_sent, with_home}
 use Rattle.chi_observe.specs.declared.ids.Later.{Later}
 use Rattle.chi_observe.specs.declared.ids.Later.TheVariants as laters
@@ -26,10 +27,10 @@ use Rattle.chi_observe.specs.declared.lines.LineNews.TheVariants as news
 use Rattle.chi_observe.specs.Judges.{Before, Judged, known_if}
 use Rattle.chi_observe.specs.Judges.Judged.{FromStart}
 use Rattle.chi_observe.specs.Lacking.{lacking_shown, lacking_with, may_show}
-use Rattle.chi_observe.specs.Lines.{LineState, apart_of, begun_next, early_by, early_of, flit_next, is_given, is_passed, is_wanted_free, is_wanted_known, lacks_of, line_next, marked_words, next_by, presented, put_aside, shown_more, shown_next, shown_words, showing_by, takes_begun, takes_flit, takes_line, wanted_of, with_shown}
+use Rattle.chi_observe.specs.Lines.{LineState, apart_of, begun_next, early_by, early_of, flit_next, heard_by, is_given, is_passed, is_wanted_free, is_wanted_known, lacks_of, line_next, marked_words, next_by, presented, put_aside, shown_more, shown_next, shown_words, showing_by, takes_begun, takes_flit, takes_line, wanted_of, with_shown}
 use Rattle.chi_observe.specs.Marks.{Marked, marks_after, shows_words}
 use Rattle.chi_observe.specs.InBeats.{AreAlike, BeatsAreOneFlit, all_wordless, behind_all, in_one, in_two, is_told_any, judged_line, takes_all, told_of}
-use Rattle.chi_observe.specs.Words.{agrees, agrees_word, but_known, left_of, none_lack, with_known, word_at, word_with, words_with}
+use Rattle.chi_observe.specs.Words.{agrees, agrees_word, but_known, lacks_some, left_of, none_lack, with_known, word_at, word_with, words_with}
 use Rattle.chi_observe.proofs.EqualFlits.{words as same_words}
 
 -- marks
@@ -81,6 +82,20 @@ by_bool : {P : Type 0} (b : Bool) → (b ≡ true → P) → (b ≡ false → P)
 by_bool true up down = up refl
 by_bool false up down = down refl
 
+any_is_wanted : wants.Any ≢ wants.Nothing
+any_is_wanted h = search (rules, arith)
+
+known_is_wanted : wants.Known ≢ wants.Nothing
+known_is_wanted h = search (rules, arith)
+
+wanted_as : (w : Watched) (e : Flit) (words : List ℕ) → wanted w (flit_with e words) ≡ wanted w e
+wanted_as w (Up f) words = refl
+wanted_as w (Down g) words = refl
+
+either_way : (b : Bool) → (if b then wants.Nothing else wants.Nothing) ≡ wants.Nothing
+either_way true = refl
+either_way false = refl
+
 -- one part of what a line is told after the other
 takes_both : (before : Before) (home : NodeId) (s : LineState) (xs ys : List (ℕ × LineNews)) → takes_all before home s (xs ++ ys) ≡ (takes_all before home s xs && takes_all before home (behind_all before s xs) ys)
 takes_both before home s [] ys = refl
@@ -123,6 +138,10 @@ reads_none : (y : Watched) (f : Flit) → is_wordless f ≡ true → reads_home 
 reads_none y (Up f) w = unread (nat_lt f.agent.0 32) (looks f.act) _ (no_right (tells_words f.act) (looks f.act) w)
 reads_none y (Down g) w = refl
 
+tells_none : (y : Watched) (f : Flit) → is_wordless f ≡ true → may_tell y f ≡ false
+tells_none y (Up f) w = unread (nat_lt f.agent.0 32) (looks f.act) (may_tell_store y.seen f.agent.0) (no_right (tells_words f.act) (looks f.act) w)
+tells_none y (Down g) w = refl
+
 shows_nothing : (y : Watched) (f : Flit) → is_wordless f ≡ true → (is_wanted_known (wanted y f) || reads_home y f) ≡ false
 shows_nothing y f w =
     let known = wants_none y f w in
@@ -138,7 +157,7 @@ record Runs (s : LineState) (h : NodeId) (l : Lacking) (v : List ℕ) (y : Watch
   pub is : s ≡ line_of h l v y marks
 
 abbrev behind_it : Watched → Flit → Watched
-behind_it y f = if is_taken y f then watch y f else y
+behind_it y f = if takes_counted y f then watch_counted y f else y
 
 abbrev is_early : Lacking → Bool
 is_early lacks.Data = false
@@ -154,19 +173,27 @@ goes_apart lacks.Nothing h v y m f e w = refl
 goes_apart lacks.Data h v y m f e w = untrue e
 goes_apart (lacks.Words unknown others had) h v y m f e w = ap (λ (b : Bool). (not b || is_wanted_free (wanted_of (line_of h (lacks.Words unknown others had) v y m) f)) && true) (shows_none f w)
 
+heard_same : (l : Lacking) (h : NodeId) (v : List ℕ) (y : Watched) (m : Marked) (f : Flit) → is_wordless f ≡ true → heard_by l (line_of h l v y m) f ≡ f
+heard_same lacks.Nothing h v y m f w = refl
+heard_same lacks.Data h v y m f w = refl
+heard_same (lacks.Words unknown others had) h v y m f w =
+    let s = line_of h (lacks.Words unknown others had) v y m in
+    ap (λ (b : Bool). if b && lacks_some (left_of unknown (lacks_of f)) then presented s f (lacks_of f) else f) (tells_none (with_home v y) f w)
+
 passed_by : (b : Bool) (t : Judged) → is_passed (known_if b t) ≡ b
 passed_by true t = refl
 passed_by false t = refl
 
 takes_step : WordlessFlitsAreApart → (before : Before) (home h : NodeId) (l : Lacking) (v : List ℕ) (y : Watched) (m : Marked) (n : ℕ) (f : Flit)
-    → is_early l ≡ true → is_wordless f ≡ true → takes_line before (line_of h l v y m) home n (news.Flit (Some f)) ≡ (h.0 == home.0 && is_taken y f)
+    → is_early l ≡ true → is_wordless f ≡ true → takes_line before (line_of h l v y m) home n (news.Flit (Some f)) ≡ (h.0 == home.0 && takes_counted y f)
 unfolding takes_line
 takes_step apart before home h l v y m n f e w =
     let s = line_of h l v y m in
-    let here = h.0 == home.0 && is_passed (known_if (is_taken (with_home v y) f) (FromStart (watch (with_home v y) f))) in
-    ap (λ (b : Bool). if b then takes_flit before s home n (Some (presented s f (lacks_of f))) else not (apart_of l s f) || here) (not_showing l h v y m f w)
-    ∙ (ap (λ (b : Bool). not b || here) (goes_apart l h v y m f e w)
-    ∙ ap (λ (b : Bool). h.0 == home.0 && b) (passed_by (is_taken (with_home v y) f) (FromStart (watch (with_home v y) f)) ∙ (apart y v f w).0))
+    let here : Flit → Bool = λ x. h.0 == home.0 && is_passed (known_if (takes_counted (with_home v y) x) (FromStart (watch_counted (with_home v y) x))) in
+    ap (λ (b : Bool). if b then takes_flit before s home n (Some (presented s f (lacks_of f))) else not (apart_of l s f) || here (heard_by l s f)) (not_showing l h v y m f w)
+    ∙ (ap (λ (b : Bool). not b || here (heard_by l s f)) (goes_apart l h v y m f e w)
+    ∙ (ap here (heard_same l h v y m f w)
+    ∙ ap (λ (b : Bool). h.0 == home.0 && b) (passed_by (takes_counted (with_home v y) f) (FromStart (watch_counted (with_home v y) f)) ∙ (apart y v f w).0)))
 
 abbrev marks_at : Bool → ℕ → Flit → List ℕ → Marked → Marked
 marks_at b n f v m = if b then marks_after n f (Some v) m else m
@@ -177,20 +204,21 @@ next_at true h l v y z m n f = refl
 next_at false h l v y z m n f = refl
 
 next_step : WordlessFlitsAreApart → (before : Before) (h : NodeId) (l : Lacking) (v : List ℕ) (y : Watched) (m : Marked) (n : ℕ) (f : Flit)
-    → is_early l ≡ true → is_wordless f ≡ true → line_next before (line_of h l v y m) n (news.Flit (Some f)) ≡ line_of h l v (behind_it y f) (marks_at (is_taken y f) n f v m)
+    → is_early l ≡ true → is_wordless f ≡ true → line_next before (line_of h l v y m) n (news.Flit (Some f)) ≡ line_of h l v (behind_it y f) (marks_at (takes_counted y f) n f v m)
 unfolding line_next
 next_step apart before h l v y m n f e w =
     let s = line_of h l v y m in
     let same = apart y v f w in
-    ap (λ (b : Bool). if b then shown_next before s n f (lacks_of f) (lacking_shown l (lacks_of f)) else (if apart_of l s f then flit_next before s n (Some f) else put_aside s)) (not_showing l h v y m f w)
-    ∙ (ap (λ (b : Bool). if b then flit_next before s n (Some f) else put_aside s) (goes_apart l h v y m f e w)
+    ap (λ (b : Bool). if b then shown_next before s n f (lacks_of f) (lacking_shown l (lacks_of f)) else (if apart_of l s f then flit_next before s n (Some (heard_by l s f)) else put_aside s)) (not_showing l h v y m f w)
+    ∙ (ap (λ (b : Bool). if b then flit_next before s n (Some (heard_by l s f)) else put_aside s) (goes_apart l h v y m f e w)
+    ∙ (ap (λ (x : Flit). flit_next before s n (Some x)) (heard_same l h v y m f w)
     ∙ ((λ i. next_by (known_if (same.0 i) (FromStart (same.1 i))) s n f)
-    ∙ next_at (is_taken y f) h l v y (watch y f) m n f))
+    ∙ next_at (takes_counted y f) h l v y (watch_counted y f) m n f)))
 
 runs_step : WordlessFlitsAreApart → (before : Before) (h : NodeId) (l : Lacking) (v : List ℕ) (y : Watched) (s : LineState) (n : ℕ) (f : Flit)
     → is_early l ≡ true → is_wordless f ≡ true → Runs s h l v y → Runs (line_next before s n (news.Flit (Some f))) h l v (behind_it y f)
 runs_step apart before h l v y s n f e w r = record {
-  marks = marks_at (is_taken y f) n f v r.marks;
+  marks = marks_at (takes_counted y f) n f v r.marks;
   is = ap (λ (x : LineState). line_next before x n (news.Flit (Some f))) r.is ∙ next_step apart before h l v y r.marks n f e w;
 }
 
@@ -201,7 +229,7 @@ through y (p ∷ ps) = through (behind_it y p.1) ps
 
 abbrev taken_through : NodeId → NodeId → Watched → List (ℕ × Flit) → Bool
 taken_through h home y [] = true
-taken_through h home y (p ∷ ps) = (h.0 == home.0 && is_taken y p.1) && taken_through h home (behind_it y p.1) ps
+taken_through h home y (p ∷ ps) = (h.0 == home.0 && takes_counted y p.1) && taken_through h home (behind_it y p.1) ps
 
 all_taken : WordlessFlitsAreApart → (before : Before) (home h : NodeId) (l : Lacking) (v : List ℕ) → is_early l ≡ true
     → (ps : List (ℕ × Flit)) → all_wordless ps ≡ true → (s : LineState) (y : Watched) → Runs s h l v y → takes_all before home s (told_of ps) ≡ taken_through h home y ps
@@ -233,10 +261,6 @@ record IsData (e : Flit) : Type 0 where
   pub shown : (v : List ℕ) → with_shown e v ≡ flit_with e v
   pub all : (v : List ℕ) → shown_words (flit_with e v) ≡ v
 
-either_way : (b : Bool) → (if b then wants.Nothing else wants.Nothing) ≡ wants.Nothing
-either_way true = refl
-either_way false = refl
-
 data_of : (n : Agent) (act : Act) (v : List ℕ) (w : Watched) → wanted w (Up (record { agent = n; act = act; shown = v })) ≢ wants.Nothing → IsData (Up (record { agent = n; act = act; shown = v }))
 data_of n (Load word) v w some = absurd (some (either_way (nat_lt n.0 32)))
 data_of n act v w some = record { words = refl; shown = λ u. refl; all = λ u. refl }
@@ -252,9 +276,9 @@ neither before home s one other a b = record {
   told = λ h. absurd (true≢false (sym h ∙ a));
 }
 
-takes_whole : (before : Before) (own home : NodeId) (w : Watched) (m : Marked) (n : ℕ) (e : Flit) → takes_line before (judged_line own w m) home n (news.Flit (Some e)) ≡ (own.0 == home.0 && is_taken w e)
+takes_whole : (before : Before) (own home : NodeId) (w : Watched) (m : Marked) (n : ℕ) (e : Flit) → takes_line before (judged_line own w m) home n (news.Flit (Some e)) ≡ (own.0 == home.0 && takes_counted w e)
 unfolding takes_line
-takes_whole before own home w m n e = ap (λ (b : Bool). own.0 == home.0 && b) (passed_by (is_taken w e) (FromStart (watch w e)))
+takes_whole before own home w m n e = ap (λ (b : Bool). own.0 == home.0 && b) (passed_by (takes_counted w e) (FromStart (watch_counted w e)))
 
 -- ANY FLITS OF A LINE OF WHICH NO WORD LACKS
 record Stands (s : LineState) (h : NodeId) (x : Watched) : Type 0 where
@@ -272,8 +296,8 @@ leads_at false h x z m n f = refl
 stands_step : (before : Before) (h : NodeId) (x : Watched) (s : LineState) (n : ℕ) (f : Flit) (r : Stands s h x) → Stands (line_next before s n (news.Flit (Some f))) h (behind_it x f)
 unfolding line_next
 stands_step before h x s n f r = record {
-  marks = marks_of (is_taken x f) (watch x f) n f r.marks;
-  is = ap (λ (y : LineState). line_next before y n (news.Flit (Some f))) r.is ∙ leads_at (is_taken x f) h x (watch x f) r.marks n f;
+  marks = marks_of (takes_counted x f) (watch_counted x f) n f r.marks;
+  is = ap (λ (y : LineState). line_next before y n (news.Flit (Some f))) r.is ∙ leads_at (takes_counted x f) h x (watch_counted x f) r.marks n f;
 }
 
 stand_all : (before : Before) (h : NodeId) (ps : List (ℕ × Flit)) (s : LineState) (x : Watched) → Stands s h x → Stands (behind_all before s (told_of ps)) h (through x ps)
@@ -295,15 +319,15 @@ leaves_held : (before : Before) (s : LineState) (k : ℕ) (same : Bool) → line
 unfolding line_next
 leaves_held before s k same = refl
 
-takes_early : (before : Before) (own home : NodeId) (w : Watched) (m : Marked) (n : ℕ) (e : Flit) → takes_line before (judged_line own w m) home n (news.Early e) ≡ (own.0 == home.0 && is_taken w e)
+takes_early : (before : Before) (own home : NodeId) (w : Watched) (m : Marked) (n : ℕ) (e : Flit) → takes_line before (judged_line own w m) home n (news.Early e) ≡ (own.0 == home.0 && takes_counted w e)
 unfolding takes_line
-takes_early before own home w m n e = ap (λ (b : Bool). own.0 == home.0 && b) (passed_by (is_taken w e) (FromStart (watch w e)))
+takes_early before own home w m n e = ap (λ (b : Bool). own.0 == home.0 && b) (passed_by (takes_counted w e) (FromStart (watch_counted w e)))
 
 stands_early : (before : Before) (h : NodeId) (x : Watched) (m : Marked) (n : ℕ) (e : Flit) → Stands (line_next before (judged_line h x m) n (news.Early e)) h (behind_it x e)
 unfolding line_next
 stands_early before h x m n e = record {
-  marks = record (marks_of (is_taken x e) (watch x e) n e m) { words = m.words };
-  is = ap (marked_words m.words) (leads_at (is_taken x e) h x (watch x e) m n e);
+  marks = record (marks_of (takes_counted x e) (watch_counted x e) n e m) { words = m.words };
+  is = ap (marked_words m.words) (leads_at (takes_counted x e) h x (watch_counted x e) m n e);
 }
 
 -- data that the line is told of with all words, and whose later beats have them or others, beside the same data
@@ -311,7 +335,7 @@ abbrev told_first : ℕ → ℕ → Flit → Bool → List (ℕ × Flit) → Lis
 told_first n k e same ps = (n, news.Early e) ∷ (told_of ps ++ ((k, news.Held same) ∷ []))
 
 taken_first : (before : Before) (own home : NodeId) (w : Watched) (m : Marked) (n k : ℕ) (e : Flit) (same : Bool) (ps : List (ℕ × Flit))
-    → takes_all before home (judged_line own w m) (told_first n k e same ps) ≡ ((own.0 == home.0 && is_taken w e) && (taken_through own home (behind_it w e) ps && same))
+    → takes_all before home (judged_line own w m) (told_first n k e same ps) ≡ ((own.0 == home.0 && takes_counted w e) && (taken_through own home (behind_it w e) ps && same))
 taken_first before own home w m n k e same ps =
     let s = judged_line own w m in
     let next = line_next before s n (news.Early e) in
@@ -327,7 +351,7 @@ taken_first before own home w m n k e same ps =
 
 -- and flits behind are taken alike, and tell the same, where what is told behind the data is the same
 beside : (before : Before) (own home : NodeId) (w : Watched) (m : Marked) (n k : ℕ) (e f : Flit) (ps : List (ℕ × Flit))
-    → is_taken w e ≡ is_taken w f → watch w e ≡ watch w f → AreAlike before home (judged_line own w m) (told_first n k e true ps) ((n, news.Flit (Some f)) ∷ told_of ps)
+    → takes_counted w e ≡ takes_counted w f → watch_counted w e ≡ watch_counted w f → AreAlike before home (judged_line own w m) (told_first n k e true ps) ((n, news.Flit (Some f)) ∷ told_of ps)
 beside before own home w m n k e f ps taken next =
     let s = judged_line own w m in
     let one = line_next before s n (news.Early e) in
@@ -364,9 +388,6 @@ known_by : (k : Bool) → wanted_if k ≡ wants.Known → k ≡ true
 known_by true h = refl
 known_by false h = absurd (search (rules, arith))
 
-known_is_wanted : wants.Known ≢ wants.Nothing
-known_is_wanted h = search (rules, arith)
-
 known_home : (w : Watched) (e : Flit) → wanted w e ≡ wants.Known → is_some w.seen.home ≡ true
 known_home w (Up f) h =
     let o = w.seen in
@@ -380,10 +401,6 @@ known_home w (Down g) h =
     let o = w.seen in
     let given = (reach (nat_lt g.agent.0 32) (wanted_given o g) wants.Known h known_is_wanted).1 in
     known_by (is_some o.home) (given_reach (shows_told g.grant (o.told g.agent.0)) (gives_data g.grant) (wanted_if (is_some o.home)) given)
-
-wanted_as : (w : Watched) (e : Flit) (words : List ℕ) → wanted w (flit_with e words) ≡ wanted w e
-wanted_as w (Up f) words = refl
-wanted_as w (Down g) words = refl
 
 fits_home : (home : Option (List ℕ)) (u v : List ℕ) → home ≡ Some u → fits home v ≡ true → u ≡ v
 fits_home home u v is h = (same_words u v).0 (subst (λ (o : Option (List ℕ)). fits o v ≡ true) is h)
@@ -403,20 +420,20 @@ of_held : KnownWordsAreTaken → (before : Before) (own home : NodeId) (w : Watc
 of_held known before own home w m n k e lacking words u ps true is has d agree held =
     let x = words_with (shown_words e) u lacking in
     let as_it = (same_words x words).0 held in
-    beside before own home w m n k (flit_with e x) (flit_with e words) ps (ap (λ (v : List ℕ). is_taken w (flit_with e v)) as_it) (ap (λ (v : List ℕ). watch w (flit_with e v)) as_it)
+    beside before own home w m n k (flit_with e x) (flit_with e words) ps (ap (λ (v : List ℕ). takes_counted w (flit_with e v)) as_it) (ap (λ (v : List ℕ). watch_counted w (flit_with e v)) as_it)
 of_held known before own home w m n k e lacking words u ps false is has d agree held =
     let x = words_with (shown_words e) u lacking in
     let c = own.0 == home.0 in
     let s = judged_line own w m in
     let end = flit_with e words in
     let other : u ≡ words → x ≡ words = λ h. (λ i. words_with (d.words i) (h i) lacking) ∙ agree in
-    let refused : is_taken w end ≡ false = by_bool (is_taken w end)
+    let refused : takes_counted w end ≡ false = by_bool (takes_counted w end)
     (λ h. absurd (true≢false (sym ((same_words x words).1 (other (fits_home w.seen.home u words has (subst (λ (y : List ℕ). fits w.seen.home y ≡ true) (words_as e words) (known w end (wanted_as w e words ∙ is) h))))) ∙ held)))
     (λ h. h) in
     let rest = taken_through own home (behind_it w (flit_with e x)) ps in
     neither before home s (told_first n k (flit_with e x) false ps) (in_one n e words ps)
-    (taken_first before own home w m n k (flit_with e x) false ps ∙ shut (c && is_taken w (flit_with e x)) (rest && false) (shut rest false refl))
-    (ap (λ (b : Bool). b && takes_all before home (line_next before s n (news.Flit (Some end))) (told_of ps)) (takes_whole before own home w m n end ∙ shut c (is_taken w end) refused))
+    (taken_first before own home w m n k (flit_with e x) false ps ∙ shut (c && takes_counted w (flit_with e x)) (rest && false) (shut rest false refl))
+    (ap (λ (b : Bool). b && takes_all before home (line_next before s n (news.Flit (Some end))) (told_of ps)) (takes_whole before own home w m n end ∙ shut c (takes_counted w end) refused))
 
 early_held : (w : Watched) (s : LineState) (e : Flit) (lacking : List Bool) (u : List ℕ) (l : Lacking) → l ≡ lacks.Nothing → wanted w e ≡ wants.Known → w.seen.home ≡ Some u
     → early_by (wanted w e) (record s { lacking = lacks.Nothing; told = FromStart w }) e lacking ≡ Some (laters.Held, words_with (shown_words e) u lacking)
@@ -441,9 +458,6 @@ of_free free before own home w m n k e lacking words ps is =
     ((free w x e is).0 ∙ sym (free w words e is).0) ((free w x e is).1 ∙ sym (free w words e is).1))
 
 -- WORDS THAT MAY BE ANY
-any_is_wanted : wants.Any ≢ wants.Nothing
-any_is_wanted h = search (rules, arith)
-
 abbrev home_words : Watched → Flit → List ℕ
 home_words w e = unwrap_or w.seen.home (shown_words e)
 
@@ -458,24 +472,24 @@ abbrev begun_words : Watched → Flit → List Bool → List ℕ
 begun_words w e lacking = words_with (first_words w e lacking) (shown_words e) (left_of none_lack lacking)
 
 takes_begin : AnyWordsAreTaken → (before : Before) (own home : NodeId) (w : Watched) (m : Marked) (n : ℕ) (e : Flit) (lacking : List Bool) → wanted w e ≡ wants.Any
-    → takes_line before (judged_line own w m) home n (news.Begun e lacking) ≡ (own.0 == home.0 && is_taken w e)
+    → takes_line before (judged_line own w m) home n (news.Begun e lacking) ≡ (own.0 == home.0 && takes_counted w e)
 unfolding takes_line
 takes_begin any before own home w m n e lacking is =
     let d = is_data w e (λ none. any_is_wanted (sym is ∙ none)) in
     let f = presented (judged_line own w m) e lacking in
     ap (λ (x : Wanted). takes_begun (lacking_with lacks.Nothing x (is_given e) lacking no_words) before (judged_line own w m) home n f) is
-    ∙ ap (λ (b : Bool). own.0 == home.0 && b) (passed_by (is_taken w f) (FromStart (watch w f)) ∙ (ap (is_taken w) (presented_is own w m e lacking d) ∙ (any w (first_words w e lacking) e is).0))
+    ∙ ap (λ (b : Bool). own.0 == home.0 && b) (passed_by (takes_counted w f) (FromStart (watch_counted w f)) ∙ (ap (takes_counted w) (presented_is own w m e lacking d) ∙ (any w (first_words w e lacking) e is).0))
 
-begin_runs : AnyWordsAreTaken → (before : Before) (own : NodeId) (w : Watched) (m : Marked) (n : ℕ) (e : Flit) (lacking : List Bool) → wanted w e ≡ wants.Any → is_taken w e ≡ true
-    → Runs (line_next before (judged_line own w m) n (news.Begun e lacking)) own (lacks.Words (but_known no_words lacking) 0 (is_given e)) (begun_words w e lacking) (watch w e)
+begin_runs : AnyWordsAreTaken → (before : Before) (own : NodeId) (w : Watched) (m : Marked) (n : ℕ) (e : Flit) (lacking : List Bool) → wanted w e ≡ wants.Any → takes_counted w e ≡ true
+    → Runs (line_next before (judged_line own w m) n (news.Begun e lacking)) own (lacks.Words (but_known no_words lacking) 0 (is_given e)) (begun_words w e lacking) (watch_counted w e)
 unfolding line_next
 begin_runs any before own w m n e lacking is taken =
     let d = is_data w e (λ none. any_is_wanted (sym is ∙ none)) in
     let u = first_words w e lacking in
     let f = presented (judged_line own w m) e lacking in
     let as_it = presented_is own w m e lacking d in
-    let takes = ap (is_taken w) as_it ∙ ((any w u e is).0 ∙ taken) in
-    let next = ap (watch w) as_it ∙ (any w u e is).1 in
+    let takes = ap (takes_counted w) as_it ∙ ((any w u e is).0 ∙ taken) in
+    let next = ap (watch_counted w) as_it ∙ (any w u e is).1 in
     let s = judged_line own w m in
     record {
       marks = record (marks_after n f (Some u) m) { words = n };
@@ -483,8 +497,8 @@ begin_runs any before own w m n e lacking is taken =
           ∙ (λ i. marked_words n (record (shown_more (next_by (known_if (takes i) (FromStart (next i))) s n f) e lacking) { lacking = lacks.Words (but_known no_words lacking) 0 (is_given e) }));
     }
 
-whole_runs : AnyWordsAreTaken → (before : Before) (own : NodeId) (w : Watched) (m : Marked) (n : ℕ) (e : Flit) (v : List ℕ) → wanted w e ≡ wants.Any → is_taken w e ≡ true
-    → Runs (line_next before (judged_line own w m) n (news.Flit (Some (flit_with e v)))) own lacks.Nothing v (watch w e)
+whole_runs : AnyWordsAreTaken → (before : Before) (own : NodeId) (w : Watched) (m : Marked) (n : ℕ) (e : Flit) (v : List ℕ) → wanted w e ≡ wants.Any → takes_counted w e ≡ true
+    → Runs (line_next before (judged_line own w m) n (news.Flit (Some (flit_with e v)))) own lacks.Nothing v (watch_counted w e)
 unfolding line_next
 whole_runs any before own w m n e v is taken =
     let takes = (any w v e is).0 ∙ taken in
@@ -527,20 +541,20 @@ last_agrees w e lacking words d agree =
     all_of _ _ _ _ _ _ _ _ (at 0 (there 0)) (at 1 (there 1)) (at 2 (there 2)) (at 3 (there 3)) (at 4 (there 4)) (at 5 (there 5)) (at 6 (there 6)) (at 7 (there 7))
 
 begun_alike : WordlessFlitsAreApart → AnyWordsAreTaken → (before : Before) (own home : NodeId) (w : Watched) (m : Marked) (n k : ℕ) (e : Flit) (lacking : List Bool) (words : List ℕ) (ps : List (ℕ × Flit)) (t : Bool)
-    → wanted w e ≡ wants.Any → words_with (flit_words e) words lacking ≡ words → all_wordless ps ≡ true → is_taken w e ≡ t → Alike before own home w m n k e lacking words ps None
+    → wanted w e ≡ wants.Any → words_with (flit_words e) words lacking ≡ words → all_wordless ps ≡ true → takes_counted w e ≡ t → Alike before own home w m n k e lacking words ps None
 begun_alike apart any before own home w m n k e lacking words ps false is agree ws taken =
     let s = judged_line own w m in
     let c = own.0 == home.0 in
     let end = flit_with e words in
     neither before home s (in_two None n k e lacking words (told_of ps)) (in_one n e words ps)
-    (ap (λ (b : Bool). b && takes_all before home (line_next before s n (news.Begun e lacking)) (told_of ps ++ ((k, news.Ended (Some end)) ∷ []))) (takes_begin any before own home w m n e lacking is ∙ shut c (is_taken w e) taken))
-    (ap (λ (b : Bool). b && takes_all before home (line_next before s n (news.Flit (Some end))) (told_of ps)) (takes_whole before own home w m n end ∙ shut c (is_taken w end) ((any w words e is).0 ∙ taken)))
+    (ap (λ (b : Bool). b && takes_all before home (line_next before s n (news.Begun e lacking)) (told_of ps ++ ((k, news.Ended (Some end)) ∷ []))) (takes_begin any before own home w m n e lacking is ∙ shut c (takes_counted w e) taken))
+    (ap (λ (b : Bool). b && takes_all before home (line_next before s n (news.Flit (Some end))) (told_of ps)) (takes_whole before own home w m n end ∙ shut c (takes_counted w end) ((any w words e is).0 ∙ taken)))
 begun_alike apart any before own home w m n k e lacking words ps true is agree ws taken =
     let s = judged_line own w m in
     let c = own.0 == home.0 in
     let end = flit_with e words in
     let d = is_data w e (λ none. any_is_wanted (sym is ∙ none)) in
-    let z = watch w e in
+    let z = watch_counted w e in
     let v = begun_words w e lacking in
     let begun = line_next before s n (news.Begun e lacking) in
     let whole = line_next before s n (news.Flit (Some end)) in
@@ -569,7 +583,7 @@ of_any : WordlessFlitsAreApart → AnyWordsAreTaken → (before : Before) (own h
     → wanted w e ≡ wants.Any → words_with (flit_words e) words lacking ≡ words → (not (is_told_any (wanted w e)) || all_wordless ps) ≡ true → Alike before own home w m n k e lacking words ps (early_of (judged_line own w m) e lacking)
 of_any apart any before own home w m n k e lacking words ps is agree ws =
     subst (Alike before own home w m n k e lacking words ps) (sym (ap (λ (y : Wanted). early_by y (judged_line own w m) e lacking) is))
-    (begun_alike apart any before own home w m n k e lacking words ps (is_taken w e) is agree (sym (ap (λ (y : Wanted). not (is_told_any y) || all_wordless ps) is) ∙ ws) refl)
+    (begun_alike apart any before own home w m n k e lacking words ps (takes_counted w e) is agree (sym (ap (λ (y : Wanted). not (is_told_any y) || all_wordless ps) is) ∙ ws) refl)
 
 -- THE LAW
 by_wanted : {P : Type 0} (x : Wanted) → x ≢ wants.Nothing → (x ≡ wants.Known → P) → (x ≡ wants.Any → P) → (x ≡ wants.Free → P) → P

@@ -12,7 +12,8 @@ use Rattle.chi_observer.specs.declared.flits.Stores.TheVariants.{Hidden, Listed}
 use Rattle.chi_observer.specs.declared.observer.Reason.{Reason}
 use Rattle.chi_observer.specs.declared.arrivals.Untaken.{Untaken}
 use Rattle.chi_observer.specs.declared.arrivals.Untaken.TheVariants.{Fault, SetAside}
-use Rattle.chi_observer.specs.Lines.{Watched, is_reason, is_taken, nothing_watched, watch, watched}
+use Rattle.chi_observer.specs.Lines.{Watched, is_reason, nothing_watched, watched}
+use Rattle.chi_observer.specs.Counted.{counted, takes_counted, watch_counted}
 use Rattle.chi_observer.specs.ListedLines.{WatchedListed, is_listed_reason, is_taken_listed, listed_in, listed_watched, nothing_listed, watch_listed}
 use Rattle.chi_observer.specs.Begun.{Beginning, begun, begun_after, forgetting, is_begun_reason, nothing_begun, takes_begun}
 use Rattle.chi_observer.specs.Arrivals.{Arrived, Outcome, arrived, is_untaken, nothing_arrived, outcome}
@@ -109,7 +110,7 @@ home_verdict NotTaken = Faulty
 home_verdict LeftAtHome = LeftOpen
 
 abbrev pub verdict : Before → ℕ → Judged → Flit → Verdict
-verdict before number (FromStart w) flit = known_if (is_taken w flit) (FromStart (watch w flit))
+verdict before number (FromStart w) flit = known_if (takes_counted w flit) (FromStart (watch_counted w flit))
 verdict before number (FromListed l) flit = known_if (is_taken_listed l flit) (FromListed (watch_listed l flit))
 verdict before number (FromMiddle b synced) flit = known_if (takes_begun (woken before synced b) flit) (FromMiddle (begun_after (woken before synced b) flit) number)
 verdict before number (AtHome a) flit = home_verdict (outcome a flit)
@@ -124,7 +125,7 @@ fault_of (Ok done) = Ok done
 fault_of (Err reason) = Err (Fault reason)
 
 abbrev pub is_judge_reason : Before → Judged → Flit → Reason → Bool
-is_judge_reason before (FromStart w) flit reason = is_reason w flit reason
+is_judge_reason before (FromStart w) flit reason = is_reason w (counted w flit) reason
 is_judge_reason before (FromListed l) flit reason = is_listed_reason l flit reason
 is_judge_reason before (FromMiddle b synced) flit reason = is_begun_reason (woken before synced b) flit reason
 is_judge_reason before (AtHome a) flit reason = is_untaken a flit (Fault reason)

@@ -13,6 +13,7 @@ use Rattle.chi_observer.specs.declared.observer.Reason.TheVariants.{OtherWords}
 use Rattle.chi_observer.specs.declared.wanted.Wanted.{Wanted}
 use Rattle.chi_observer.specs.declared.wanted.Wanted.TheVariants as wants
 use Rattle.chi_observer.specs.Listed.{Words}
+use Rattle.chi_observer.specs.Counted.{may_tell}
 use Rattle.chi_observer.specs.Wanted.{reads_home}
 use Rattle.chi_ids.specs.declared.keys.CacheLine.{CacheLine}
 use Rattle.chi_observe.specs.declared.ids.Later.{Later}
@@ -172,6 +173,14 @@ home_or s flit = unwrap_or (told_in s.told).seen.home (shown_words flit)
 abbrev pub presented : LineState → Flit → List Bool → Flit
 presented s flit lacking = with_shown flit (words_with (words_with (shown_words flit) (with_known (told_words s.told flit) (home_or s flit)) lacking) (home_or s flit) (unknown_in s.lacking))
 
+-- a load that may tell of a store, of a word that no flit has shown, tells of none: it is one of the home's, which may be any
+abbrev pub heard_by : Lacking → LineState → Flit → Flit
+heard_by (lacks.Words unknown others had) s flit = if may_tell (told_in s.told) flit && lacks_some (left_of unknown (lacks_of flit)) then presented s flit (lacks_of flit) else flit
+heard_by other s flit = flit
+
+abbrev pub heard : LineState → Flit → Flit
+heard s flit = heard_by s.lacking s flit
+
 -- the home has the words that it is the first to show
 abbrev pub refilled : Option (List ℕ) → LineState → Flit → List Bool → LineState
 refilled None s flit lacking = s
@@ -200,7 +209,7 @@ abbrev pub takes_between : Before → LineState → NodeId → ℕ → Option Fl
 takes_between before s home number None = true
 takes_between before s home number (Some flit) =
     if is_showing s (Some flit) then takes_flit before s home number (Some (presented s flit (lacks_of flit)))
-    else not (is_apart s (Some flit)) || takes_flit before s home number (Some flit)
+    else not (is_apart s (Some flit)) || takes_flit before s home number (Some (heard s flit))
 
 abbrev pub takes_begun : Option Lacking → Before → LineState → NodeId → ℕ → Flit → Bool
 takes_begun None before s home number flit = true
@@ -227,7 +236,7 @@ abbrev pub between_next : Before → LineState → ℕ → Option Flit → LineS
 between_next before s number None = put_aside s
 between_next before s number (Some flit) =
     if is_showing s (Some flit) then shown_next before s number flit (lacks_of flit) (lacking_shown s.lacking (lacks_of flit))
-    else if is_apart s (Some flit) then flit_next before s number (Some flit) else put_aside s
+    else if is_apart s (Some flit) then flit_next before s number (Some (heard s flit)) else put_aside s
 
 abbrev pub early_next : Before → LineState → ℕ → Flit → LineState
 early_next before s number flit = marked_words s.marks.words (between_next before s number (Some flit))
@@ -272,7 +281,7 @@ is_flit_reason before s home (Some flit) (Rule reason) = is_judge_reason before 
 
 abbrev pub is_between_reason : Before → LineState → NodeId → Option Flit → LineReason → Bool
 is_between_reason before s home None reason = false
-is_between_reason before s home (Some flit) reason = is_flit_reason before s home (if is_showing s (Some flit) then Some (presented s flit (lacks_of flit)) else Some flit) reason
+is_between_reason before s home (Some flit) reason = is_flit_reason before s home (if is_showing s (Some flit) then Some (presented s flit (lacks_of flit)) else Some (heard s flit)) reason
 
 abbrev pub is_begun_reason : Option Lacking → Before → LineState → NodeId → Flit → LineReason → Bool
 is_begun_reason None before s home flit reason = false

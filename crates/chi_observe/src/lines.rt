@@ -5,7 +5,8 @@ ghost use Rattle.std.specs.Map.{lookup};
 ghost use Rattle.chi_observe.specs.declared.lines.LineStop.TheVariants as stops;
 ghost use Rattle.chi_observer.specs.ListedLines.{words_of};
 ghost use Rattle.chi_observe.specs.Judges.{before_of};
-ghost use Rattle.chi_observe.specs.Lines.{IsBegunTold, IsBetweenTold, IsEarlyTold, IsEndTold, IsFlitTold, IsHeldTold, IsHoldTold, IsLastTold, IsLineTold, IsShownTold, IsTold, early_of, held_next, home_of, is_apart, is_aside, is_given, is_put_aside, is_showing, is_wanted_free, is_wanted_known, lacks_of, line_state, lines_in, marked_next, opened_line, presented, put_aside, shown_more, shown_words, shows_home, wanted_of, with_shown, word_in};
+ghost use Rattle.chi_observe.specs.Lacking.{unknown_in};
+ghost use Rattle.chi_observe.specs.Lines.{IsBegunTold, IsBetweenTold, IsEarlyTold, IsEndTold, IsFlitTold, IsHeldTold, IsHoldTold, IsLastTold, IsLineTold, IsShownTold, IsTold, early_of, heard, held_next, home_of, is_apart, is_aside, is_given, is_put_aside, is_showing, is_wanted_free, is_wanted_known, lacks_of, line_state, lines_in, marked_next, opened_line, presented, put_aside, shown_more, shown_words, shows_home, wanted_of, with_shown, word_in};
 
 use crate::ids::Later;
 use crate::judges::{Before, Judge};
@@ -366,6 +367,27 @@ impl<A: Allocator> LineSeen<A> {
         }
     }
 
+    /// A flit between the beats of data as the line is told of it: a load that may tell of a store, of a word that no flit has
+    /// shown yet, tells of none.
+    fn heard(&self, flit: Flit) -> Flit
+        ensures { result ≡ heard (line_state self.now) flit }
+    {
+        match self.lacking {
+            Lacking::Nothing => flit,
+            Lacking::Data => flit,
+            Lacking::Words(unknown, _, _) => {
+                let lacks = lacks_of(flit);
+                if self.judge.observer().may_tell_store(flit)
+                    && lacks_some(&left_of(&unknown, &lacks))
+                {
+                    self.presented(flit, &lacks)
+                } else {
+                    flit
+                }
+            }
+        }
+    }
+
     /// Takes a flit of this home, and with this number, between the beats of data or not.
     fn take_between(
         &mut self,
@@ -377,15 +399,18 @@ impl<A: Allocator> LineSeen<A> {
         ensures { IsBetweenTold (before_of before.now) (line_state self.old) (line_state self.new)
             number home flit result }
     {
+        let Some(sent) = flit else {
+            self.set_aside();
+            return Ok(());
+        };
         if self.is_showing(&flit) {
-            if let Some(flit) = flit {
-                let lacks = lacks_of(flit);
-                let lacking = self.lacking.shown(&lacks);
-                return self.take_shown(before, home, flit, &lacks, lacking, number);
-            }
+            let lacks = lacks_of(sent);
+            let lacking = self.lacking.shown(&lacks);
+            return self.take_shown(before, home, sent, &lacks, lacking, number);
         }
         if self.is_apart(&flit) {
-            return self.take_flit(before, home, flit, number);
+            let heard = self.heard(sent);
+            return self.take_flit(before, home, Some(heard), number);
         }
         self.set_aside();
         Ok(())

@@ -25,7 +25,8 @@ use Rattle.chi_observer.specs.Moments.{has_moment, shown_after, waits_after}
 use Rattle.chi_observer.specs.Observed.{Observed, current_after, differs, fits, fits_word, goes}
 use Rattle.chi_observer.specs.Worlds.{home_may, public_after, public_granted, put}
 use Rattle.chi_observer.specs.Lines.{Watched, is_taken, watch}
-use Rattle.chi_observer.specs.Wanted.{cancelled_if, flit_with, flit_words, is_wordless, tells_cancelled, wanted, wanted_if, with_home}
+use Rattle.chi_observer.specs.Counted.{counted, takes_counted, watch_counted}
+use Rattle.chi_observer.specs.Wanted.{AnyWordsAreTaken, FreeWordsAreTaken, KnownWordsAreTaken, WordlessFlitsAreApart, cancelled_if, flit_with, flit_words, is_wordless, tells_cancelled, wanted, wanted_if, with_home}
 use Rattle.chi_observer.proofs.Finite.{no, left, right}
 
 -- flits without words
@@ -68,10 +69,10 @@ apart_given s words n v CompSC h = (refl, refl)
 apart_given s words n v CompI h = (refl, refl)
 apart_given s words n v CompDBIDResp h = (refl, refl)
 
-pub apart : (s : Watched) (words : List ℕ) (e : Flit) → is_wordless e ≡ true → (is_taken (with_home words s) e ≡ is_taken s e) × (watch (with_home words s) e ≡ with_home words (watch s e))
+apart_itself : (s : Watched) (words : List ℕ) (e : Flit) → is_wordless e ≡ true → (is_taken (with_home words s) e ≡ is_taken s e) × (watch (with_home words s) e ≡ with_home words (watch s e))
 unfolding Apart
-apart s words (Up f) h = apart_sent s words f.agent f.shown f.act h
-apart s words (Down g) h = apart_given s words g.agent g.shown g.grant h
+apart_itself s words (Up f) h = apart_sent s words f.agent f.shown f.act h
+apart_itself s words (Down g) h = apart_given s words g.agent g.shown g.grant h
 
 -- what has to hold of a flit whose words may be any, or have to be known
 wanted_any : (b k : Bool) → (if b then Nothing else wanted_if k) ≡ Any → (b ≡ false) × (k ≡ false)
@@ -129,9 +130,9 @@ known_given s g h t =
     shown_fits (shows_told g.grant (o.told n)) _ shows
     (left _ _ (right (home_may o.public g) _ (right (has_moment o s.shown g) _ (right (nat_lt n 32) _ (right (is_judged (Down g)) _ t)))))
 
-pub known_taken : (s : Watched) (e : Flit) → wanted s e ≡ Known → is_taken s e ≡ true → fits s.seen.home (flit_words e) ≡ true
-known_taken s (Up f) = known_sent s f
-known_taken s (Down g) = known_given s g
+known_taken_itself : (s : Watched) (e : Flit) → wanted s e ≡ Known → is_taken s e ≡ true → fits s.seen.home (flit_words e) ≡ true
+known_taken_itself s (Up f) = known_sent s f
+known_taken_itself s (Down g) = known_given s g
 
 -- words that may be any
 any_fits : (worded renewed current : Bool) (home : Option (List ℕ)) (v : List ℕ) → (worded && (not renewed && (current && is_some home))) ≡ false → (not worded || (renewed || (not current || fits home v))) ≡ true
@@ -225,9 +226,9 @@ any_given s words g h =
       λ i. so (home i),
     )
 
-pub any_taken : (s : Watched) (words : List ℕ) (e : Flit) → wanted s e ≡ Any → (is_taken s (flit_with e words) ≡ is_taken s e) × (watch s (flit_with e words) ≡ with_home words (watch s e))
-any_taken s words (Up f) = any_sent s words f
-any_taken s words (Down g) = any_given s words g
+any_taken_itself : (s : Watched) (words : List ℕ) (e : Flit) → wanted s e ≡ Any → (is_taken s (flit_with e words) ≡ is_taken s e) × (watch s (flit_with e words) ≡ with_home words (watch s e))
+any_taken_itself s words (Up f) = any_sent s words f
+any_taken_itself s words (Down g) = any_given s words g
 
 -- words that tell nothing
 not_free : (b k : Bool) → (if b then Nothing else wanted_if k) ≢ Free
@@ -240,9 +241,9 @@ free_reach true c true h = absurd (search (rules, arith))
 free_reach true c false h = absurd (search (rules, arith))
 free_reach false c k h = refl
 
-pub free_taken : (s : Watched) (words : List ℕ) (e : Flit) → wanted s e ≡ Free → (is_taken s (flit_with e words) ≡ is_taken s e) × (watch s (flit_with e words) ≡ watch s e)
-free_taken s words (Up f) h = absurd (not_free (not (tells_words f.act) || tells_cancelled s.seen f) _ (in_reach (nat_lt f.agent.0 32) _ Free h (λ e. absurd (search (rules, arith)))).1)
-free_taken s words (Down g) h =
+free_taken_itself : (s : Watched) (words : List ℕ) (e : Flit) → wanted s e ≡ Free → (is_taken s (flit_with e words) ≡ is_taken s e) × (watch s (flit_with e words) ≡ watch s e)
+free_taken_itself s words (Up f) h = absurd (not_free (not (tells_words f.act) || tells_cancelled s.seen f) _ (in_reach (nat_lt f.agent.0 32) _ Free h (λ e. absurd (search (rules, arith)))).1)
+free_taken_itself s words (Down g) h =
     let o = s.seen in
     let n = g.agent.0 in
     let untold = free_reach (shows_told g.grant (o.told n)) (gives_data g.grant) (is_some o.home) (in_reach (nat_lt n 32) _ Free h (λ e. absurd (search (rules, arith)))).1 in
@@ -262,3 +263,73 @@ free_taken s words (Down g) h =
       ap (takes words) untold ∙ sym (ap (takes g.shown) untold),
       (λ i. so (home words i)) ∙ sym (λ i. so (home g.shown i)),
     )
+
+-- WHAT IS NO LOAD COUNTS AS ITSELF
+no_look : (a b : Bool) → not (a || b) ≡ true → b ≡ false
+no_look true b h = no h
+no_look false true h = no h
+no_look false false h = refl
+
+plain_act : (s : Watched) (n : Agent) (a : Act) (v : List ℕ) → looks a ≡ false → counted s (Up (record { agent = n; act = a; shown = v })) ≡ Up (record { agent = n; act = a; shown = v })
+plain_act s n (Load word) v h = no (sym h)
+plain_act s n other v h = refl
+
+plain_wordless : (s : Watched) (e : Flit) → is_wordless e ≡ true → counted s e ≡ e
+plain_wordless s (Up f) h = plain_act s f.agent f.act f.shown (no_look (tells_words f.act) (looks f.act) h)
+plain_wordless s (Down g) h = refl
+
+either_way : (b : Bool) → (if b then Nothing else Nothing) ≡ Nothing
+either_way true = refl
+either_way false = refl
+
+wanted_act : (s w : Watched) (n : Agent) (a : Act) (v : List ℕ) → wanted w (Up (record { agent = n; act = a; shown = v })) ≢ Nothing
+    → counted s (Up (record { agent = n; act = a; shown = v })) ≡ Up (record { agent = n; act = a; shown = v })
+wanted_act s w n (Load word) v some = absurd (some (either_way (nat_lt n.0 32)))
+wanted_act s w n other v some = refl
+
+plain_wanted : (s w : Watched) (e : Flit) → wanted w e ≢ Nothing → counted s e ≡ e
+plain_wanted s w (Up f) some = wanted_act s w f.agent f.act f.shown some
+plain_wanted s w (Down g) some = refl
+
+wanted_as : (w : Watched) (e : Flit) (words : List ℕ) → wanted w (flit_with e words) ≡ wanted w e
+wanted_as w (Up f) words = refl
+wanted_as w (Down g) words = refl
+
+plain_with : (s w : Watched) (e : Flit) (words : List ℕ) → wanted w e ≢ Nothing → counted s (flit_with e words) ≡ flit_with e words
+plain_with s w e words some = plain_wanted s w (flit_with e words) (λ none. some (sym (wanted_as w e words) ∙ none))
+
+is_some_wanted : (w : Watched) (e : Flit) (x : Wanted) → x ≢ Nothing → wanted w e ≡ x → wanted w e ≢ Nothing
+is_some_wanted w e x some is none = some (sym is ∙ none)
+
+pub apart : WordlessFlitsAreApart
+apart s words e h =
+    let here = plain_wordless s e h in
+    let there = plain_wordless (with_home words s) e h in
+    let same = apart_itself s words e h in (
+      ap (is_taken (with_home words s)) there ∙ (same.0 ∙ sym (ap (is_taken s) here)),
+      ap (watch (with_home words s)) there ∙ (same.1 ∙ sym (ap (λ (x : Flit). with_home words (watch s x)) here)),
+    )
+
+pub any_taken : AnyWordsAreTaken
+any_taken s words e h =
+    let some = is_some_wanted s e Any (λ none. absurd (search (rules, arith))) h in
+    let here = plain_wanted s s e some in
+    let there = plain_with s s e words some in
+    let same = any_taken_itself s words e h in (
+      ap (is_taken s) there ∙ (same.0 ∙ sym (ap (is_taken s) here)),
+      ap (watch s) there ∙ (same.1 ∙ sym (ap (λ (x : Flit). with_home words (watch s x)) here)),
+    )
+
+pub free_taken : FreeWordsAreTaken
+free_taken s words e h =
+    let some = is_some_wanted s e Free (λ none. absurd (search (rules, arith))) h in
+    let here = plain_wanted s s e some in
+    let there = plain_with s s e words some in
+    let same = free_taken_itself s words e h in (
+      ap (is_taken s) there ∙ (same.0 ∙ sym (ap (is_taken s) here)),
+      ap (watch s) there ∙ (same.1 ∙ sym (ap (watch s) here)),
+    )
+
+pub known_taken : KnownWordsAreTaken
+known_taken s e h t =
+    known_taken_itself s e h (ap (is_taken s) (sym (plain_wanted s s e (is_some_wanted s e Known (λ none. absurd (search (rules, arith))) h))) ∙ t)

@@ -7,6 +7,7 @@ mod Put
 mod Cache
 mod Comes
 mod Loads
+mod CountedLoads
 mod Rewind
 mod Back
 mod Copies

@@ -11,6 +11,7 @@ pub mod Listed
 pub mod ListedRuns
 pub mod ListedLaws
 pub mod Lines
+pub mod Counted
 pub mod Wanted
 pub mod ListedLines
 pub mod Begun

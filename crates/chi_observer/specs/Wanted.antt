@@ -9,7 +9,8 @@ use Rattle.chi_observer.specs.declared.wanted.Wanted.TheVariants.{Nothing, Known
 use Rattle.chi_observer.specs.Rules.{gives_data, has_data, lets_go, looks, reads_any, tells_words}
 use Rattle.chi_observer.specs.Tables.{is_cancelled, most, renews, shows_told}
 use Rattle.chi_observer.specs.Observed.{Observed, fits}
-use Rattle.chi_observer.specs.Lines.{Watched, is_taken, watch}
+use Rattle.chi_observer.specs.Lines.{Watched}
+use Rattle.chi_observer.specs.Counted.{takes_counted, watch_counted}
 
 abbrev pub wanted_if : Bool → Wanted
 wanted_if known = if known then Known else Any
@@ -63,16 +64,16 @@ is_wordless (Up f) = not (tells_words f.act || looks f.act)
 is_wordless (Down g) = not (gives_data g.grant)
 
 abbrev pub WordlessFlitsAreApart : Type 0
-WordlessFlitsAreApart = (s : Watched) (words : List ℕ) (e : Flit) → is_wordless e ≡ true → (is_taken (with_home words s) e ≡ is_taken s e) × (watch (with_home words s) e ≡ with_home words (watch s e))
+WordlessFlitsAreApart = (s : Watched) (words : List ℕ) (e : Flit) → is_wordless e ≡ true → (takes_counted (with_home words s) e ≡ takes_counted s e) × (watch_counted (with_home words s) e ≡ with_home words (watch_counted s e))
 
 -- Data whose words may be any are taken with any, and all that their words change is the home's.
 abbrev pub AnyWordsAreTaken : Type 0
-AnyWordsAreTaken = (s : Watched) (words : List ℕ) (e : Flit) → wanted s e ≡ Any → (is_taken s (flit_with e words) ≡ is_taken s e) × (watch s (flit_with e words) ≡ with_home words (watch s e))
+AnyWordsAreTaken = (s : Watched) (words : List ℕ) (e : Flit) → wanted s e ≡ Any → (takes_counted s (flit_with e words) ≡ takes_counted s e) × (watch_counted s (flit_with e words) ≡ with_home words (watch_counted s e))
 
 -- Data that tell nothing by their words are taken with any.
 abbrev pub FreeWordsAreTaken : Type 0
-FreeWordsAreTaken = (s : Watched) (words : List ℕ) (e : Flit) → wanted s e ≡ Free → (is_taken s (flit_with e words) ≡ is_taken s e) × (watch s (flit_with e words) ≡ watch s e)
+FreeWordsAreTaken = (s : Watched) (words : List ℕ) (e : Flit) → wanted s e ≡ Free → (takes_counted s (flit_with e words) ≡ takes_counted s e) × (watch_counted s (flit_with e words) ≡ watch_counted s e)
 
 -- Data whose words are to be known are taken with the home's words alone.
 abbrev pub KnownWordsAreTaken : Type 0
-KnownWordsAreTaken = (s : Watched) (e : Flit) → wanted s e ≡ Known → is_taken s e ≡ true → fits s.seen.home (flit_words e) ≡ true
+KnownWordsAreTaken = (s : Watched) (e : Flit) → wanted s e ≡ Known → takes_counted s e ≡ true → fits s.seen.home (flit_words e) ≡ true

@@ -7,6 +7,7 @@
 mod arrivals;
 mod arriving;
 mod begun;
+mod counted;
 mod cuts;
 mod flits;
 mod kinds;
@@ -23,6 +24,7 @@ mod wanted;
 pub use arrivals::{Arrivals, Aside, Untaken};
 pub use arriving::{Arriving, Earlier, Held};
 pub use begun::{AgentBegun, Begun, Certainty};
+pub use counted::counted_loads;
 pub use cuts::tails;
 pub use flits::{Act, Answer, CacheFlit, Due, Flit, Grant, HomeFlit, Stores, Word};
 pub use kinds::{Kind, Snoop};

@@ -164,7 +164,7 @@ impl ListedObserver {
             return Err(self.refusal(sent));
         }
         let words = self.words_after(sent);
-        self.seen.take(Flit::Up(sent))?;
+        self.seen.take_itself(Flit::Up(sent))?;
         self.words = words;
         Ok(())
     }
@@ -179,7 +179,7 @@ impl ListedObserver {
             (λ reason. is_listed_reason (listed_watched self.old) (Down given) reason ≡ true) }
     {
         let words = self.words_granted(given);
-        self.seen.take(Flit::Down(given))?;
+        self.seen.take_itself(Flit::Down(given))?;
         self.words = words;
         Ok(())
     }

@@ -6,6 +6,7 @@ ghost use Rattle.chi_observer.specs.Tables.{fills_told, shows_told, fits_told, i
 ghost use Rattle.chi_observer.specs.Worlds.{all_below, home_may};
 ghost use Rattle.chi_observer.specs.Observed.{differs, fits, fits_word, goes, takes, takes_home, next, next_home};
 ghost use Rattle.chi_observer.specs.Moments.{after, has_moment};
+ghost use Rattle.chi_observer.specs.Counted.{counted, takes_counted, watch_counted};
 ghost use Rattle.chi_observer.specs.Lines.{agent_after, agent_granted, goes_beside, is_given_reason, is_judged_reason, is_quiet, is_reason, is_sent_reason, is_taken, known_of, none_overwrites, nothing_watched, observed, stands_beside, takes_flit, watch, watched};
 
 use crate::flits::{Act, CacheFlit, Due, Flit, Grant, HomeFlit, Stores};
@@ -115,9 +116,21 @@ impl Observer {
 
     /// Takes the next flit of the line. `Ok` exactly where the rules take it: a flit of a cache where stores and drops
     /// that nobody saw explain it, and one of the home where it is safe whatever they were. Else the first rule that
-    /// it breaks, and nothing changes.
+    /// it breaks, and nothing changes. A load that tells of a store that nobody saw is taken as that store.
     /// Source: `docs/OBSERVER.md`, "Flits of a cache", "Flits of the home".
     pub fn take(&mut self, flit: Flit) -> Result<(), Reason>
+        ensures taken { is_ok result ≡ takes_counted (watched self.old) flit }
+        ensures after { OnOk result (watched self.new ≡ watch_counted (watched self.old) flit) }
+        ensures kept { OnErr result (self.new ≡ self.old) }
+        ensures reason { IfErr result
+            (λ reason. is_reason (watched self.old) (counted (watched self.old) flit) reason ≡ true) }
+    {
+        let counted = self.counted(flit);
+        self.take_itself(counted)
+    }
+
+    /// Takes the next flit of the line, which counts as itself.
+    pub(crate) fn take_itself(&mut self, flit: Flit) -> Result<(), Reason>
         ensures taken { is_ok result ≡ is_taken (watched self.old) flit }
         ensures after { OnOk result (watched self.new ≡ watch (watched self.old) flit) }
         ensures kept { OnErr result (self.new ≡ self.old) }
@@ -417,7 +430,7 @@ pub(crate) fn may_be(known: &Option<Data>, words: &Data) -> bool
 }
 
 /// Whether a load's word may be one of those that are known.
-fn may_read(known: &Option<Data>, act: Act) -> bool
+pub(crate) fn may_read(known: &Option<Data>, act: Act) -> bool
     ensures { result ≡ fits_word known.now act }
 {
     match known {

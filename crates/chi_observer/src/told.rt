@@ -82,7 +82,7 @@ impl Told {
     }
 
     /// Whether it may have data.
-    fn holds_data(self) -> bool
+    pub(crate) fn holds_data(self) -> bool
         ensures { result ≡ holds_data (strongest self) }
     {
         matches!(

@@ -240,3 +240,40 @@ fn another_word_while_a_request_is_open_is_a_fault(rt: HostRuntime) {
     let found = fault_beside_an_owner(&rt, &last);
     assert!(rt; found == Some((2, Reason::OtherWords)), "{found:?}");
 }
+
+#[test]
+fn another_word_tells_of_a_store(rt: HostRuntime) {
+    let last = [
+        up(0, Load(NINE), NO_DATA),
+        up(1, Request(ReadUnique), NO_DATA),
+        down(0, Snp(SnpUnique), NO_DATA),
+        up(0, SnpResp(SnpRespI), NO_DATA),
+    ];
+    let found = fault_beside_an_owner(&rt, &last);
+    assert!(rt; found == Some((3, Reason::NotSent)), "{found:?}");
+}
+
+#[test]
+fn another_word_tells_that_a_retried_request_is_cancelled(rt: HostRuntime) {
+    let last = [
+        up(0, Request(WriteEvictFull), NO_DATA),
+        down(0, RetryAck, NO_DATA),
+        up(0, Load(NINE), NO_DATA),
+        up(0, Resend(WriteEvictFull), NO_DATA),
+    ];
+    let found = fault_beside_an_owner(&rt, &last);
+    assert!(rt; found == Some((3, Reason::NotSent)), "{found:?}");
+}
+
+#[test]
+fn another_word_before_the_acknowledgement_tells_of_a_store(rt: HostRuntime) {
+    let flits = [
+        up(0, Request(ReadUnique), NO_DATA),
+        down(0, CompData(UC), OLD),
+        up(0, Load(NINE), NO_DATA),
+        up(0, CompAck, NO_DATA),
+        up(0, Request(WriteEvictFull), NO_DATA),
+    ];
+    let found = fault_of(&flits);
+    assert!(rt; found == Some((4, Reason::NotSent)), "{found:?}");
+}

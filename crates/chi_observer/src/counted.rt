@@ -1,0 +1,68 @@
+//! Loads that tell of stores which nobody saw.
+
+ghost use Rattle.std.specs.Prelude.{◌≡◌, ◌<◌, ◌&&◌};
+ghost use Rattle.chi_observer.specs.Lines.{observed, watched};
+ghost use Rattle.chi_observer.specs.Counted.{CountedLoadsAreTaken, CountedLoadsLead, CountedLoadsCome, counted, may_tell, may_tell_store};
+
+use crate::flits::{Act, CacheFlit, Flit};
+use crate::observer::{Observer, may_read};
+use crate::rules::looks;
+use chi_flit::Agent;
+
+/// The law of a load that counts as a store: it is taken, and so is the store. Each world whose copy has its word is one that
+/// the store leaves; and where no request of its agent is open, or one that was retried, hidden steps lead from such worlds
+/// to just those.
+/// Source: `docs/OBSERVER.md`, "What is proved".
+pub fn counted_loads()
+    ensures taken { CountedLoadsAreTaken }
+    ensures leads { CountedLoadsLead }
+    ensures comes { CountedLoadsCome }
+{}
+
+impl Observer {
+    /// The flit as which one counts. A load of another word than the home's counts as a store of that word, where the value
+    /// last stored is the home's but for stores that nobody saw, and its copy, which has data, may have been stored to so.
+    /// Any other flit counts as itself.
+    /// Source: `docs/OBSERVER.md`, "Flits of a cache".
+    pub(crate) fn counted(&self, flit: Flit) -> Flit
+        ensures { result ≡ counted (watched self.now) flit }
+    {
+        match flit {
+            Flit::Up(sent) => match sent.act {
+                Act::Load(word) => {
+                    if self.may_tell_store(flit) && !may_read(&self.home, sent.act) {
+                        let act = Act::Store(word);
+                        Flit::Up(CacheFlit { act, ..sent })
+                    } else {
+                        flit
+                    }
+                }
+                _ => flit,
+            },
+            Flit::Down(_) => flit,
+        }
+    }
+
+    /// Whether a flit is a load that tells of a store where its word isn't the home's.
+    /// Source: `docs/OBSERVER.md`, "Data in beats".
+    pub fn may_tell_store(&self, flit: Flit) -> bool
+        ensures { result ≡ may_tell (watched self.now) flit }
+    {
+        match flit {
+            Flit::Up(sent) => {
+                sent.agent.0 < 32 && (looks(sent.act) && self.may_be_stored(sent.agent))
+            }
+            Flit::Down(_) => false,
+        }
+    }
+
+    /// Whether the value last stored is the home's but for stores that nobody saw, and one may have been done to the agent's
+    /// copy, which has data.
+    fn may_be_stored(&self, agent: Agent) -> bool
+        requires { agent.0 < 32 }
+        ensures { result ≡ may_tell_store (observed self.now) agent.0 }
+    {
+        let seen = self.agents[usize::from(agent.0)];
+        self.current && (seen.reads_any(self.stores) && seen.told.holds_data())
+    }
+}
