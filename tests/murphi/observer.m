@@ -55,7 +55,7 @@ var
   home: value;
   known: knowledge;  -- the home's words, where flits have shown them
   current: boolean;
-  stored: knowledge; -- where all stores are listed: the word of the value last stored, while it isn't the home's
+  stored: knowledge; -- the word of the value last stored that stores and loads told, while it isn't the home's
   duty: boolean;
   thrown: boolean;
 
@@ -358,6 +358,12 @@ begin
   thrown := false;
 end;
 
+-- ("Words that are known": none behind a flit of a copy to which a store may be done that nobody sees)
+procedure forget_word(n: agent);
+begin
+  if hidden & may_be_free(lanes[n].due) & is_unique(strongest(lanes[n].told)) then stored := unknown; end;
+end;
+
 procedure await(n: agent; d: due; k: kind);
 begin
   lanes[n].due := d;
@@ -403,6 +409,7 @@ ruleset n: agent; k: kind do
   begin
     assert "a request is taken"
       may_be_free(lanes[n].due) & exists c: copy do may_be_later(lanes[n].told, c) & may_issue(k, c) end;
+    forget_word(n);
     if hidden & (k = WriteBackFull | k = WriteCleanFull) & is_unique(strongest(lanes[n].told)) then current := false; end;
     lanes[n].told := told_issued(k, lanes[n].told);
     if k = Evict then hold(n, I, 0); end;
@@ -417,6 +424,7 @@ ruleset n: agent do
   ==>
   begin
     assert "a request is taken again" !lanes[n].surely;
+    forget_word(n);
     await(n, SureCompletion, lanes[n].kind);
     follow(n, true, true);
   end;
@@ -435,7 +443,8 @@ ruleset n: agent; a: answer; v: value do
     throws := lanes[n].snooped = SnpMakeInvalid;
     renewed := hidden & may_be_free(lanes[n].due) & is_unique(strongest(lanes[n].told)) & (tells_dirty(a) | throws);
     others := shows(a) & current & !fits(lanes[n].word);
-    assert "an answer is taken" may_give(a, n) & (!others | renewed) & (!shows(a) | fits_stored(lanes[n].word));
+    assert "an answer is taken" may_give(a, n) & (!others | renewed) & (!shows(a) | renewed | fits_stored(lanes[n].word));
+    forget_word(n);
     if hidden & lanes[n].due = Resending & tells_dirty(a) & is_unique(strongest(lanes[n].told))
         & (others | lanes[n].told != ToldUD) then
       lanes[n].surely := true;
@@ -524,7 +533,8 @@ ruleset n: agent do
     assert "a load is taken"
       (has_data(strongest(lanes[n].told)) | (hidden & may_be_free(lanes[n].due) & is_unique(strongest(lanes[n].told))))
       & may_load(n, lanes[n].word);
-    if !hidden & !current then stored := lanes[n].word; end;
+    if !current & !may_load_any(n) then stored := lanes[n].word; end;
+    forget_word(n);
     if strongest(lanes[n].told) = UCE | tells_store(n, lanes[n].word) then
       current := false;
       if lanes[n].due = Resending then lanes[n].surely := true; end;
@@ -546,7 +556,7 @@ ruleset n: agent; v: value do
     hold(n, UD, v);
     last := v;
     current := false;
-    if !hidden then stored := v; end;
+    if hidden then stored := unknown; else stored := v; end;
     lanes[n].surely := lanes[n].due = Resending;
     lanes[n].told := ToldUD;
     follow(n, true, false);
@@ -778,7 +788,8 @@ invariant "the home's words"
   known = unknown | known = home;
 
 invariant "the word that was stored or loaded"
-  stored = unknown | stored = last;
+  stored = unknown | stored = last
+    | exists n: agent do hidden & is_free(n) & is_unique(strongest(lanes[n].told)) & lanes[n].copy = UD end;
 
 invariant "the value is the home's, but for stores that nobody saw"
   current

@@ -6,10 +6,11 @@ cache is legal where some world lets its cache send it. A flit of the home is le
 own copy, it is safe in every world with that value. Nothing of what the observer keeps stands here.
 
 A flit is a tuple: ("cache" or "home", the agent, what it does, and with which words). A load and a store are flits of a
-cache with a place in the line and a word. A load leaves the worlds whose copy has its word. Where stores may be hidden each
-place has another word in each value, and other worlds are left too: where a store that nobody saw may be done, if only behind
-the CompAck, those that it makes; and of a dirty copy whose request is open those of any value, if some has the word. What a
-store writes isn't learnt. Where all stores are listed no hidden step is a store, and a value is made of its words, two for
+cache with a place in the line and a word. A load leaves the worlds whose copy has its word. Where stores may be hidden it is
+of one place, which has another word in each value, and other worlds are left too: where a store that nobody saw may be done,
+if only behind the CompAck, those that it makes; and of a dirty copy whose request was retried those of any value, if some has
+the word. What is known of such a copy is forgotten where its request is retried, and what a store writes isn't learnt. Where
+all stores are listed no hidden step is a store, and a value is made of its words, two for
 each place: a store makes its word, and keeps those of the other places where the copy has data. Besides these a value has
 a part of two that no load and no store names, of which flits show the first alone: behind a store it is any, so only data
 show that the home has the value.
@@ -131,7 +132,7 @@ class Line:
     def __init__(self, agents, values, listed):
         """`values`: those that flits show; where all stores are listed `listed` places have two words each."""
         self.agents, self.listed = agents, listed
-        self.places = listed or 8
+        self.places = listed or 1
         self.values = 2 ** listed if listed else values
         self.all_values = range(2 * self.values if listed else values)
         self.snoops, self.duty = (None,) * agents, False
@@ -210,7 +211,7 @@ class Line:
         open_to_stores = [it for it in holding if it.copies[agent] in ("UC", "UD")
                           and (not it.requests[agent] or it.requests[agent].phase == "ack")]
         stored = {made for it in open_to_stores if it not in reading for made in self.store(it, agent, place, word)}
-        waiting = {it for it in holding if it.copies[agent] == "UD" and it not in open_to_stores}
+        waiting = {it for it in holding if it.copies[agent] == "UD" and it.requests[agent] and it.requests[agent].phase == "retried"}
         return reading | stored | (waiting if waiting & reading else set())
 
     def store(self, world, agent, place, word):
@@ -232,7 +233,10 @@ class Line:
         request = world.requests[agent]
         if not request or request.phase != "sent" or not request.first:
             return None
-        return [world._replace(requests=put(world.requests, agent, Request(request.kind, "retried", True)))]
+        retried = world._replace(requests=put(world.requests, agent, Request(request.kind, "retried", True)))
+        if self.listed or world.copies[agent] != "UD":
+            return [retried]
+        return [retried._replace(last=value) for value in self.all_values]
 
     def snoop(self, world, agent, snoop):
         throws = any(it and at != agent and it.phase == "sent" and it.kind in THROWING

@@ -31,18 +31,19 @@ use Rattle.chi_observer.specs.Rules.{are_hidden, lets_store, reads_any}
 use Rattle.chi_observer.specs.Tables.{Known, most, told_after}
 use Rattle.chi_observer.specs.Worlds.{World, put}
 use Rattle.chi_observer.specs.Observed.{Observed, next, takes}
-use Rattle.chi_observer.specs.Lines.{Watched, is_taken, watch}
-use Rattle.chi_observer.specs.Counted.{HasWord, counted, may_tell_store, stored, takes_counted, tells_store, watch_counted}
+use Rattle.chi_observer.specs.Lines.{Watched}
+use Rattle.chi_observer.specs.Counted.{HasWord, counted, may_tell_store, stored, tells_store}
+use Rattle.chi_observer.specs.WordedLines.{WatchedWords, is_taken_worded, takes_by_word, watch_by_word, watch_worded}
 use Rattle.chi_conformity.specs.Seen.{step_seen, up}
 use Rattle.chi_conformity.proofs.Held.{Beside, Stands, held, is_given_up, world_of}
 use Rattle.chi_conformity.proofs.Flits.{Laws, beside_put, cache_flit, meant_as}
 use Rattle.chi_conformity.proofs.Acted.{Sent, low_agent}
 use Rattle.chi_conformity.proofs.Accesses.{load_seen, loaded, loaded_word, no_data, valid_held}
 use Rattle.chi_conformity.proofs.Steps.{load_valid, step_follows}
-use Rattle.chi_conformity.proofs.StepWords.{plain_step}
+use Rattle.chi_conformity.proofs.StepWords.{loaded_last, plain_step, store_follows_by_word}
 use Rattle.chi_conformity.proofs.Taken.{FollowsBy, up_taken}
 use Rattle.chi_conformity.proofs.Told.{left, no, right}
-use Rattle.chi_conformity.proofs.Words.{is_access, is_plain, not_access}
+use Rattle.chi_conformity.proofs.Words.{StandsByWord, counted_known, is_access, is_plain, load_known, not_access, plain_follows, safe_of}
 
 valid_copy : (c : Copy) → holds_data c ≡ true → same c Invalid ≡ false
 valid_copy Invalid h = no h
@@ -90,6 +91,7 @@ counted_sent laws o s last agent word low stands tells has =
         meant = meant_as (next o g) w (world_of (next o g).public.due s last stands.home)
             (λ k below. ap (held (lane s k)) (same_put n o.public.due k)) (λ k below. refl) refl refl
             (laws.counted_lead o f word w stands.sound (low_agent n low) tells stands.meant has);
+        value = λ c. no c;
         thrown = ap (λ (b : Bool). b || false) stands.thrown;
         lanes = beside_put (is_given_up s.home.serving) s.home.filter.unique s s n (lane s n) o.public.due o.public.snooped o.told _ _ _ (stays s n)
             (stored_beside (is_given_up s.home.serving) s.home.filter.unique (lane s n) (o.public.due n) (o.public.snooped n) (o.told n) word _ one filled (stands.lanes n))
@@ -98,9 +100,12 @@ counted_sent laws o s last agent word low stands tells has =
     )
 
 -- A LOAD
-module _ (laws : Laws) (w : Watched) (s : LineState) (last : List ℕ) (agent : Agent) (word : WordNo) (low : agent.0 < 8) (kept : Kept last s) (stands : Stands last s w.seen) (valid : is_valid (rn_of s agent.0).state ≡ true) where
+module _ (laws : Laws) (w : WatchedWords) (s : LineState) (last : List ℕ) (agent : Agent) (word : WordNo) (low : agent.0 < 8) (placed : nat_lt word.0 8 ≡ true) (kept : Kept last s) (stands : StandsByWord last s w) (may : load_refusal (rn_of s agent.0) ≡ None) where
   abbrev n : ℕ
   n = agent.0
+
+  abbrev o : Observed
+  o = w.line.seen
 
   abbrev read : Word
   read = loaded s agent.0 word
@@ -109,47 +114,64 @@ module _ (laws : Laws) (w : Watched) (s : LineState) (last : List ℕ) (agent : 
   f = cache_flit agent (Load read) no_words
 
   abbrev Goes : Type 0
-  Goes = (takes_counted w (Up f) ≡ true) × Stands last s (watch_counted w (Up f)).seen
+  Goes = (takes_by_word w (Up f) ≡ true) × StandsByWord last s (watch_by_word w (Up f))
 
-  has : HasWord n read (world_of w.seen.public.due s last stands.home)
+  valid : is_valid (rn_of s agent.0).state ≡ true
+  valid = load_valid s agent.0 may
+
+  has : HasWord n read (world_of o.public.due s last stands.0.home)
   has = (
     valid_held (rn_of s n).state (cells_of s n).dat_down (cells_of s n).rsp_down valid,
     loaded_word (rn_of s n) (cells_of s n).dat_down word (no_data s.home.serving s.home.filter.unique s.home.filter.owner last n (lane s n) (kept.lanes n low) valid),
   )
 
-  as_it : (e : Flit) → counted w (Up f) ≡ e → (is_taken w e ≡ true) × Stands last s (watch w e).seen → Goes
-  as_it e is t = (ap (is_taken w) is ∙ t.0, subst (λ (x : Flit). Stands last s (watch w x).seen) (sym is) t.1)
+  as_it : (e : Flit) → counted w.line (Up f) ≡ e → (is_taken_worded w e ≡ true) × StandsByWord last s (watch_worded w e) → Goes
+  as_it e is t = (ap (is_taken_worded w) is ∙ t.0, subst (λ (x : Flit). StandsByWord last s (watch_worded w x)) (sym is) t.1)
 
-  by : (b : Bool) → (nat_lt n 32 && tells_store w.seen n read) ≡ b → Goes
-  by true e = as_it (Up (stored f read)) (ap (λ (b : Bool). Up (if b then stored f read else f)) e)
-      (up_taken w s last agent (Store read) no_words low (counted_sent laws w.seen s last agent read low stands (right (nat_lt n 32) _ e) has))
-  by false e = as_it (Up f) (ap (λ (b : Bool). Up (if b then stored f read else f)) e)
-      (up_taken w s last agent (Load read) no_words low (load_seen laws w.seen s last agent word low kept stands valid))
+  stored_taken : tells_store o n read ≡ true → (is_taken_worded w (Up (stored f read)) ≡ true) × StandsByWord last s (watch_worded w (Up (stored f read)))
+  stored_taken tells =
+      let open_copy : may_tell_store o n ≡ true = left (may_tell_store o n) _ tells in
+      let any : reads_any o.public.stores (o.public.due n) (most (o.told n)) ≡ true = left _ _ (right o.current _ open_copy) in
+      let hidden : are_hidden o.public.stores ≡ true = left _ _ any in
+      let t = up_taken w.line s last agent (Store read) no_words low (counted_sent laws o s last agent read low stands.0 tells has) in
+      let k = counted_known w agent read no_words last placed hidden (left o.current _ open_copy) stands.1 t.0 in
+      (k.0, (t.1, k.1))
+
+  load_taken : (is_taken_worded w (Up f) ≡ true) × StandsByWord last s (watch_worded w (Up f))
+  load_taken =
+      let t = up_taken w.line s last agent (Load read) no_words low (load_seen laws o s last agent word low kept stands.0 valid) in
+      let k = load_known laws w agent read no_words last placed (loaded_last last s agent.0 word.0 low kept may) (safe_of last s o stands.0) stands.1 t.0 in
+      (k.0, (t.1, k.1))
+
+  by : (b : Bool) → (nat_lt n 32 && tells_store o n read) ≡ b → Goes
+  by true e = as_it (Up (stored f read)) (ap (λ (b : Bool). Up (if b then stored f read else f)) e) (stored_taken (right (nat_lt n 32) _ e))
+  by false e = as_it (Up f) (ap (λ (b : Bool). Up (if b then stored f read else f)) e) load_taken
 
   load_counted : Goes
-  load_counted = by (nat_lt agent.0 32 && tells_store w.seen agent.0 (loaded s agent.0 word)) refl
+  load_counted = by (nat_lt agent.0 32 && tells_store o agent.0 (loaded s agent.0 word)) refl
 
 -- EACH STEP
 plain_act : (w : Watched) (n : Agent) (act : Act) (shown : List ℕ) → is_access act ≡ false → counted w (up n act shown) ≡ up n act shown
 plain_act w n (Load word) shown h = no (sym h)
 plain_act w n other shown h = refl
 
-plain_counted : (flits : List Flit) (w : Watched) (Stand : Watched → Type 0) → is_plain flits ≡ true → FollowsBy is_taken watch Stand w flits → FollowsBy takes_counted watch_counted Stand w flits
+plain_counted : (flits : List Flit) (w : WatchedWords) (Stand : WatchedWords → Type 0) → is_plain flits ≡ true → FollowsBy is_taken_worded watch_worded Stand w flits → FollowsBy takes_by_word watch_by_word Stand w flits
 plain_counted [] w Stand plain follows = follows
-plain_counted (Down g ∷ flits) w Stand plain follows = (follows.0, plain_counted flits (watch w (Down g)) Stand plain follows.1)
+plain_counted (Down g ∷ flits) w Stand plain follows = (follows.0, plain_counted flits (watch_worded w (Down g)) Stand plain follows.1)
 plain_counted (Up f ∷ []) w Stand plain follows =
-    let is = plain_act w f.agent f.act f.shown (not_access (is_access f.act) plain) in
-    (ap (is_taken w) is ∙ follows.0, subst (λ (x : Flit). Stand (watch w x)) (sym is) follows.1)
+    let is = plain_act w.line f.agent f.act f.shown (not_access (is_access f.act) plain) in
+    (ap (is_taken_worded w) is ∙ follows.0, subst (λ (x : Flit). Stand (watch_worded w x)) (sym is) follows.1)
 plain_counted (Up f ∷ flit ∷ flits) w Stand plain follows = no plain
 
-pub step_follows_counted : Laws → (c : Conditions) (last : List ℕ) (s : LineState) (agent : Agent) (line : Line) (step : Step) (w : Watched) → agent.0 < 8 → is_step_in_range step ≡ true
-    → step_refusal c s agent step ≡ None → (c.slot_used ≡ false → names_used_slot s agent.0 step ≡ false) → Kept last s → Stands last s w.seen
-    → FollowsBy takes_counted watch_counted (λ (v : Watched). Stands (last_with line.0 last (step_record s agent line step)) (after_step c.profile s agent step) v.seen) w (step_seen c.profile s agent step)
-step_follows_counted laws c last s agent line (steps.Load word) w low placed allowed free kept stands =
-    load_counted laws w s last agent word low kept stands (load_valid s agent.0 (neither (load_refusal (rn_of s agent.0)) (full_if c.journal_full) allowed).0)
-step_follows_counted laws c last s agent line (steps.Store word value) w low placed allowed free kept stands =
-    step_follows laws c last s agent line (steps.Store word value) w low allowed free kept stands
-step_follows_counted laws c last s agent line other w low placed allowed free kept stands =
-    plain_counted (step_seen c.profile s agent other) w (λ (v : Watched). Stands (last_with line.0 last (step_record s agent line other)) (after_step c.profile s agent other) v.seen)
+pub step_follows_by_word : Laws → (c : Conditions) (last : List ℕ) (s : LineState) (agent : Agent) (line : Line) (step : Step) (w : WatchedWords) → agent.0 < 8 → is_step_in_range step ≡ true
+    → step_refusal c s agent step ≡ None → (c.slot_used ≡ false → names_used_slot s agent.0 step ≡ false) → Kept last s → StandsByWord last s w
+    → FollowsBy takes_by_word watch_by_word (StandsByWord (last_with line.0 last (step_record s agent line step)) (after_step c.profile s agent step)) w (step_seen c.profile s agent step)
+step_follows_by_word laws c last s agent line (steps.Load word) w low placed allowed free kept stands =
+    load_counted laws w s last agent word low placed kept stands (neither (load_refusal (rn_of s agent.0)) (full_if c.journal_full) allowed).0
+step_follows_by_word laws c last s agent line (steps.Store word value) w low placed allowed free kept stands =
+    store_follows_by_word laws c last s agent line word value w low placed allowed free kept stands
+step_follows_by_word laws c last s agent line other w low placed allowed free kept stands =
+    plain_counted (step_seen c.profile s agent other) w (StandsByWord (last_with line.0 last (step_record s agent line other)) (after_step c.profile s agent other))
     (plain_step c.profile s agent other refl)
-    (step_follows laws c last s agent line other w low allowed free kept stands)
+    (plain_follows laws (step_seen c.profile s agent other) w last (after_step c.profile s agent other) (plain_step c.profile s agent other refl) (safe_of last s w.line.seen stands.0) stands.1
+    (step_follows laws c last s agent line other w.line low allowed free kept stands.0))

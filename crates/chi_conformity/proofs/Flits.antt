@@ -10,16 +10,18 @@ use Rattle.chi_line.specs.Kept.{Lane, lane}
 use Rattle.chi_line.proofs.Frame.{Moves}
 use Rattle.chi_observer.specs.declared.kinds.Snoop.{Snoop as SeenSnoop}
 use Rattle.chi_observer.specs.declared.flits.Due.{Due}
+use Rattle.chi_observer.specs.declared.flits.Stores.{Stores}
 use Rattle.chi_observer.specs.declared.flits.Act.{Act}
-use Rattle.chi_observer.specs.declared.flits.Act.TheVariants.{SnpResp}
+use Rattle.chi_observer.specs.declared.flits.Act.TheVariants.{SnpResp, Store}
 use Rattle.chi_observer.specs.declared.flits.CacheFlit.{CacheFlit}
 use Rattle.chi_observer.specs.Copies.{Held, holds_data}
 use Rattle.chi_observer.specs.Rules.{acts, allows, due_after, has_data, has_word, lets_go, snooped_after, stores, tells_words, throws, writes}
-use Rattle.chi_observer.specs.Tables.{Known, fresh, reach, told_after}
+use Rattle.chi_observer.specs.Tables.{Known, fresh, reach, renews, told_after}
 use Rattle.chi_observer.specs.Worlds.{Sends, World, put}
 use Rattle.chi_observer.specs.Observed.{Meaning, Observed, differs, next, takes}
 use Rattle.chi_observer.specs.Counted.{CountedLoadsAreTaken, CountedLoadsLead}
-use Rattle.chi_observer.specs.Laws.{MeaningIsClosed, CacheFlitsAreTaken, CacheFlitsLead, CacheFlitsKeepSound, HomeFlitsKeepSound, HomeFlitsLead}
+use Rattle.chi_observer.specs.Laws.{MeaningIsClosed, CacheFlitsAreTaken, CacheFlitsLead, CacheFlitsTellTheValue, CacheFlitsKeepSound, HomeFlitsKeepSound, HomeFlitsLead}
+use Rattle.chi_observer.specs.WordedLaws.{WordsAreHeldCalm}
 use Rattle.chi_conformity.specs.Seen.{snoop_seen}
 use Rattle.chi_conformity.proofs.Held.{Beside, Stands, held, is_given_up, words_held, world_of}
 use Rattle.chi_conformity.proofs.Put.{differ, here, there}
@@ -29,6 +31,8 @@ pub record Laws : Type 0 where
   pub closed : MeaningIsClosed
   pub taken : CacheFlitsAreTaken
   pub leads : CacheFlitsLead
+  pub tells : CacheFlitsTellTheValue
+  pub calm : WordsAreHeldCalm
   pub kept : CacheFlitsKeepSound
   pub counted_taken : CountedLoadsAreTaken
   pub counted_lead : CountedLoadsLead
@@ -138,6 +142,16 @@ unthrown act snoop q thrown is safe = go (tells_words act)
     go true = refl
     go false = none
 
+was_current : (t r c : Bool) → t ≡ false → (if t then true else (if r then false else c)) ≡ true → (r ≡ false) × (c ≡ true)
+was_current true r c h e = absurd (cc (h))
+was_current false true c h e = absurd (cc (e))
+was_current false false c h e = (refl, e)
+
+-- a store says that there was one
+no_store : (z : Stores) (act : Act) (x : Bool) (d : Due) (k : Known) → renews z act x d k ≡ false → stores act ≡ false
+no_store z (Store word) x d k h = absurd (cc (h))
+no_store z other x d k h = refl
+
 -- what is told of the sender then
 abbrev pub told_next : Observed → Agent → Act → List ℕ → Known
 told_next o agent act shown = told_after act (o.public.due agent.0) (o.told agent.0) (differs o (cache_flit agent act shown))
@@ -159,8 +173,17 @@ flit_sent laws o s s' last last' agent x act shown low moves stays stands can ow
         home = if tells_words act then shown else stands.home;
         sound = laws.kept o f stands.sound low taken;
         meant = laws.leads o f w w' stands.sound low stands.meant sent;
+        value = value_by (tells_words act) refl;
         thrown = unthrown act (lane s agent.0).flits.snp (o.public.snooped agent.0) o.public.thrown (stands.lanes agent.0).snooped_is stands.thrown;
         lanes = subst (λ home. (m : ℕ) → Beside (is_given_up home.serving) home.filter.unique (lane s' m) ((next o f).public.due m) ((next o f).public.snooped m) ((next o f).told m)) (sym stays)
             (beside_put (is_given_up s.home.serving) s.home.filter.unique s s' agent.0 x o.public.due o.public.snooped o.told _ _ _ moves own (λ m other. stands.lanes m));
       },
     )
+  where
+    -- the words that are told are the value; and where none are it is as before, and no store was
+    value_by : (b : Bool) → tells_words act ≡ b → (next o (cache_flit agent act shown)).current ≡ true → last' ≡ (if tells_words act then shown else stands.home)
+    value_by true tells c = laws.tells o (cache_flit agent act shown) (world_of o.public.due s last stands.home) (world_of (next o (cache_flit agent act shown)).public.due s' last' (if tells_words act then shown else stands.home))
+        stands.sound low stands.meant (sends o s s' last last' stands.home agent x act shown moves can) tells
+    value_by false silent c =
+        let was = was_current (tells_words act) (renews o.public.stores act (lets_go (o.public.snooped agent.0)) (o.public.due agent.0) (o.told agent.0)) o.current silent c in
+        can.lasts (no_store o.public.stores act (lets_go (o.public.snooped agent.0)) (o.public.due agent.0) (o.told agent.0) was.0) ∙ (stands.value was.1 ∙ sym (ap (λ (b : Bool). if b then shown else stands.home) silent))

@@ -64,6 +64,11 @@ and_none : (a b : Bool) → a ≡ false → (a && b) ≡ false
 and_none true b h = no (sym h)
 and_none false b h = refl
 
+still : (z c m : Bool) → z ≡ false → (z || (c && m)) ≡ true → c ≡ true
+still true c m h e = no (sym h)
+still false true m h e = refl
+still false false m h e = no e
+
 -- all stands behind a flit that is taken
 pub flit_given : Laws → (o : Observed) (s s' : LineState) (last : List ℕ) (agent : Agent) (x : Lane) (grant : Grant) (shown : List ℕ) → agent.0 < 32
     → Moves s s' agent.0 x → (stands : Stands last s o) → Gift (o.public.due agent.0) (lane s agent.0) x stands.home grant shown
@@ -79,6 +84,7 @@ flit_given laws o s s' last agent x grant shown low moves stands gift takes own 
       home = stands.home;
       sound = laws.home_kept o g stands.sound low takes;
       meant = laws.home_leads o g w w' stands.sound low takes stands.meant gift.informed (gives o s s' last stands.home agent x grant shown moves gift);
+      value = λ c. stands.value (still (settles grant (o.public.due agent.0)) o.current _ gift.settles_none c);
       thrown = and_none o.public.thrown _ stands.thrown;
       lanes = beside_put (is_given_up s'.home.serving) s'.home.filter.unique s s' agent.0 x o.public.due o.public.snooped o.told _ _ _ moves own other;
     }

@@ -142,11 +142,12 @@ pub record Beside (up unique : Bool) (x : Lane) (due : Due) (snooped : Option Se
   pub gone : is_gone up x.rn.pending x.flits.rsp_up x.flits.dat_up ≡ true → same (most told) Invalid ≡ true
   pub shared : is_shared x.flits.rsp_up x.flits.dat_up ≡ true → is_unique (most told) ≡ false
 
--- the relation that every action keeps; last are the values last stored
+-- the relation that every action keeps; last are the values last stored, which the home has where it is told to
 pub record Stands (last : List ℕ) (s : LineState) (o : Observed) : Type 0 where
   pub home : List ℕ
   pub sound : Sound o
   pub meant : Meaning o (world_of o.public.due s last home)
+  pub value : o.current ≡ true → last ≡ home
   pub thrown : o.public.thrown ≡ false
   pub lanes : (n : ℕ) → Beside (is_given_up s.home.serving) s.home.filter.unique (lane s n) (o.public.due n) (o.public.snooped n) (o.told n)
 

@@ -1,6 +1,6 @@
 -- A CleanUnique whose copy was lost: its agent acknowledges, and has none.
 use Rattle.std.proofs.Common.{◌≡◌, inl, inr, ℕ, ◌<◌, List, refl, sym, ap, subst, ◌∙◌}
-use Rattle.std.specs.Prelude.{Bool, true, false, ◌||◌, Option, Some, None}
+use Rattle.std.specs.Prelude.{Bool, true, false, ◌||◌, Option, Some, None, if◌then◌else◌}
 use Rattle.chi_flit.specs.declared.numbers.Agent.{Agent}
 use Rattle.chi_flit.specs.declared.state.State.{State}
 use Rattle.chi_flit.specs.declared.state.State.TheVariants.{I}
@@ -96,6 +96,7 @@ lost_seen laws o s last agent low kept stands at gone =
         home = stands.home;
         sound = laws.kept o f stands.sound (low_agent n low) taken;
         meant = laws.closed (next o f) mid after (laws.kept o f stands.sound (low_agent n low) taken) (laws.leads o f w mid stands.sound (low_agent n low) stands.meant sent) drops;
+        value = λ c'. stands.value (still _ o.current c');
         thrown = unthrown o.public.thrown stands.thrown;
         lanes = beside_put (is_given_up s.home.serving) s.home.filter.unique s s' n x o.public.due o.public.snooped o.told _ _ _ moves
             (beside_sent s.home.serving s.home.filter.unique s.home.filter.owner last n (lane s n) (rn_after_comp rn) (record c { rsp_down = None; rsp_up = Some Ack }) _ _ _ _ _ _ k (stands.lanes n)
@@ -106,6 +107,10 @@ lost_seen laws o s last agent low kept stands at gone =
       },
     )
   where
+    still : (r c : Bool) → (if r then false else c) ≡ true → c ≡ true
+    still true c h = no h
+    still false c h = h
+
     unthrown : (thrown : Bool) → thrown ≡ false → (thrown || false) ≡ false
     unthrown true h = no (sym h)
     unthrown false h = refl

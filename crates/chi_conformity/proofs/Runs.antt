@@ -36,10 +36,9 @@ use Rattle.chi_observer.specs.Copies.{Held, holds_data}
 use Rattle.chi_observer.specs.Copies.Copy.{Invalid}
 use Rattle.chi_observer.specs.declared.flits.Flit.{Flit}
 use Rattle.chi_observer.specs.declared.flits.Stores.{Stores}
-use Rattle.chi_observer.specs.declared.flits.Stores.TheVariants.{Listed as AllListed}
 use Rattle.chi_observer.specs.Lines.{Watched, nothing_watched}
 use Rattle.chi_observer.specs.Counted.{takes_counted, watch_counted}
-use Rattle.chi_observer.specs.ListedLines.{is_taken_listed, nothing_listed, watch_listed}
+use Rattle.chi_observer.specs.WordedLines.{WatchedWords, nothing_worded, takes_by_word, watch_by_word}
 use Rattle.chi_observer.specs.Rules.{plain}
 use Rattle.chi_observer.specs.Runs.{nothing_told}
 use Rattle.chi_observer.specs.Tables.{reach}
@@ -48,11 +47,10 @@ use Rattle.chi_conformity.specs.Seen.{snoop_seen, step_seen}
 use Rattle.chi_conformity.proofs.Held.{DueIs, Stands, held, held_of}
 use Rattle.chi_conformity.proofs.Flits.{Laws}
 use Rattle.chi_conformity.proofs.Put.{differ}
-use Rattle.chi_conformity.proofs.Counted.{step_follows_counted}
-use Rattle.chi_conformity.proofs.StepWords.{step_follows_by_word}
+use Rattle.chi_conformity.proofs.Counted.{step_follows_by_word}
 use Rattle.chi_conformity.proofs.Words.{StandsByWord}
 use Rattle.chi_conformity.proofs.Taken.{FollowsBy, taken_more}
-use Rattle.chi_conformity.proofs.Told.{no}
+use Rattle.chi_conformity.proofs.Told.{left, no}
 
 -- THE VALUES LAST STORED
 fits_journal : (log : Log) (entry : Option Record) → CanAppend log entry → length log.words ≡ log.lines → FitsJournal log entry
@@ -146,6 +144,7 @@ opening_stands z last = record {
     home = λ v e. absurd (cc (e));
     current = λ c unstored. refl;
   };
+  value = λ c. refl;
   thrown = refl;
   lanes = λ n. record {
     due_is = subst (λ (r : Rn). DueIs r.pending (cells_of opening_line n).req (cells_of opening_line n).rsp_down (cells_of opening_line n).dat_down Nothing) (sym (empty_rn n)) refl;
@@ -175,17 +174,20 @@ words_long false lines l low = ap (λ (xs : List ℕ). length xs) (get_or-replic
 opening_long : (config : Sizes) (index l : ℕ) → is_line_in_range (opening_slice config index) l ≡ true → length (last_of (opening_slice config index) l) ≡ 8
 opening_long config index l here = words_long (nat_lt 0 config.journal) config.lines l (inside (opening_slice config index) l here).low
 
+pub conform_by_word : Laws → SlicesConformByWord
+conform_by_word laws z config index actions l limits within here =
+    run_taken takes_by_word watch_by_word StandsByWord
+    (step_follows_by_word laws)
+    actions l (opening_slice config index) (nothing_worded z) (opening_kept config index limits within) here (
+      opening_line_stands z config index l limits within here,
+      record { long = opening_long config index l here; words = λ c calm. no (sym c) },
+    )
+
+-- who keeps no words takes it too
+taken_besides : (flits : List Flit) (w : WatchedWords) → AreTakenBy takes_by_word watch_by_word w flits → AreTakenBy takes_counted watch_counted w.line flits
+taken_besides [] w taken = tt
+taken_besides (flit ∷ flits) w taken = (left (takes_counted w.line flit) _ taken.0, taken_besides flits (watch_by_word w flit) taken.1)
+
 pub conform : Laws → SlicesConform
 conform laws z config index actions l limits within here =
-    run_taken takes_counted watch_counted (λ last s (w : Watched). Stands last s w.seen)
-    (step_follows_counted laws)
-    actions l (opening_slice config index) (nothing_watched z) (opening_kept config index limits within) here (opening_line_stands z config index l limits within here)
-
-pub conform_by_word : Laws → SlicesConformByWord
-conform_by_word laws config index actions l limits within here =
-    run_taken is_taken_listed watch_listed StandsByWord
-    (step_follows_by_word laws)
-    actions l (opening_slice config index) nothing_listed (opening_kept config index limits within) here (
-      opening_line_stands AllListed config index l limits within here,
-      record { stores = refl; long = opening_long config index l here; words = λ c. no (sym c) },
-    )
+    taken_besides (run_seen (opening_slice config index) actions l) (nothing_worded z) (conform_by_word laws z config index actions l limits within here)

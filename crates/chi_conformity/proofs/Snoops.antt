@@ -199,6 +199,7 @@ serving_stands o s last agent request marks stands = record {
   home = stands.home;
   sound = stands.sound;
   meant = stands.meant;
+  value = stands.value;
   thrown = stands.thrown;
   lanes = λ m. let b = stands.lanes m in record {
     due_is = b.due_is;

@@ -1,8 +1,9 @@
--- Each step of a line sends flits that are taken word by word where all stores are listed.
+-- Each step of a line but a load sends flits that are taken word by word.
 use Rattle.std.proofs.Common.{◌≡◌, ℕ, ◌+◌, ◌<◌, List, [], ◌∷◌, refl, sym, ap, subst, set}
-use Rattle.std.specs.Prelude.{Bool, true, false, ◌==◌, map, Option, Some, None, if◌then◌else◌}
+use Rattle.std.specs.Prelude.{Bool, true, false, ◌==◌, map, nat_lt, Option, Some, None, if◌then◌else◌}
 use Rattle.chi_flit.specs.declared.numbers.Agent.{Agent}
 use Rattle.chi_flit.specs.declared.numbers.Line.{Line}
+use Rattle.chi_flit.specs.declared.numbers.WordNo.{WordNo}
 use Rattle.chi_flit.specs.declared.snoop.Snoop.{Snoop}
 use Rattle.chi_flit.specs.declared.credit.Profile.{Profile}
 use Rattle.chi_flit.specs.declared.action.Step.{Step}
@@ -24,21 +25,19 @@ use Rattle.chi_homeline.specs.Home.Started.{Evicted, Sends, Snoops}
 use Rattle.chi_line.specs.declared.act.Conditions.{Conditions}
 use Rattle.chi_line.specs.LineState.{LineState, cells_of, rn_of}
 use Rattle.chi_line.specs.Kept.{Kept}
-use Rattle.chi_line.specs.Refused.{full_if, step_refusal}
-use Rattle.chi_line.specs.Step.{after_step, answer_in, is_step_in_range, step_record}
+use Rattle.chi_line.specs.Refused.{step_refusal}
+use Rattle.chi_line.specs.Step.{after_step, answer_in, step_record}
 use Rattle.chi_line.specs.Traffic.{answered_flits, completion_ack, completion_flits, request_again, retry_ack, snoop_answer, start_flits, started_flits}
-use Rattle.chi_line.proofs.After.{last_with, names_used_slot, neither}
+use Rattle.chi_line.proofs.After.{last_with, names_used_slot}
 use Rattle.chi_line.proofs.Asks.{same}
-use Rattle.chi_observer.specs.declared.flits.Act.TheVariants as acts
 use Rattle.chi_observer.specs.Rules.{word_at}
-use Rattle.chi_observer.specs.ListedLines.{WatchedListed}
+use Rattle.chi_observer.specs.WordedLines.{WatchedWords}
 use Rattle.chi_conformity.specs.Seen.{flit_seen, message_seen, step_seen}
-use Rattle.chi_conformity.proofs.Flits.{Laws, cache_flit}
-use Rattle.chi_conformity.proofs.Accesses.{loaded}
+use Rattle.chi_conformity.proofs.Flits.{Laws}
 use Rattle.chi_conformity.proofs.Steps.{load_valid, step_follows}
 use Rattle.chi_conformity.proofs.Taken.{Follows}
 use Rattle.chi_conformity.proofs.Told.{no}
-use Rattle.chi_conformity.proofs.Words.{FollowsByWord, StandsByWord, is_plain, load_known, plain_follows, store_known}
+use Rattle.chi_conformity.proofs.Words.{FollowsByWord, StandsByWord, is_plain, store_known}
 
 -- WHAT A STEP SENDS, IF IT IS NEITHER A LOAD NOR A STORE
 plain_reply : (n : Agent) (reply : Reply) → is_plain (message_seen n (RspUp reply) ∷ []) ≡ true
@@ -110,25 +109,17 @@ plain_step profile s n other h = refl
 where_same : (l : ℕ) (x y : List ℕ) → (if l == l then x else y) ≡ x
 where_same l x y = rw (same l) refl
 
-loaded_last : (last : List ℕ) (s : LineState) (n p : ℕ) → n < 8 → Kept last s → load_refusal (rn_of s n) ≡ None → word_at last p ≡ word_at (rn_of s n).words p
+pub loaded_last : (last : List ℕ) (s : LineState) (n p : ℕ) → n < 8 → Kept last s → load_refusal (rn_of s n) ≡ None → word_at last p ≡ word_at (rn_of s n).words p
 loaded_last last s n p low kept may = ap (λ (words : List ℕ). word_at words p) (sym ((kept.lanes n low).holder_last (load_valid s n may)))
 
-pub step_follows_by_word : Laws → (c : Conditions) (last : List ℕ) (s : LineState) (agent : Agent) (line : Line) (step : Step) (w : WatchedListed) → agent.0 < 8 → is_step_in_range step ≡ true
-    → step_refusal c s agent step ≡ None → (c.slot_used ≡ false → names_used_slot s agent.0 step ≡ false) → Kept last s → StandsByWord last s w
-    → FollowsByWord (last_with line.0 last (step_record s agent line step)) (after_step c.profile s agent step) w (step_seen c.profile s agent step)
-step_follows_by_word laws c last s agent line (steps.Load word) w low placed allowed free kept stands =
-    let follows = step_follows laws c last s agent line (steps.Load word) w.line low allowed free kept stands.0 in
-    let known = load_known w (cache_flit agent (acts.Load (loaded s agent.0 word)) no_words) (loaded s agent.0 word) last refl placed
-    (loaded_last last s agent.0 word.0 low kept (neither (load_refusal (rn_of s agent.0)) (full_if c.journal_full) allowed).0) stands.1 follows.0 in
-    (known.0, (follows.1, known.1))
-step_follows_by_word laws c last s agent line (steps.Store word value) w low placed allowed free kept stands =
+pub store_follows_by_word : Laws → (c : Conditions) (last : List ℕ) (s : LineState) (agent : Agent) (line : Line) (word : WordNo) (value : ℕ) (w : WatchedWords) → agent.0 < 8 → nat_lt word.0 8 ≡ true
+    → step_refusal c s agent (steps.Store word value) ≡ None → (c.slot_used ≡ false → names_used_slot s agent.0 (steps.Store word value) ≡ false) → Kept last s → StandsByWord last s w
+    → FollowsByWord (last_with line.0 last (step_record s agent line (steps.Store word value))) (after_step c.profile s agent (steps.Store word value)) w (step_seen c.profile s agent (steps.Store word value))
+store_follows_by_word laws c last s agent line word value w low placed allowed free kept stands =
     let step : Step = steps.Store word value in
     let last' : List ℕ = set last word.0 value in
     let is : last_with line.0 last (step_record s agent line step) ≡ last' = where_same line.0 last' last in
     let follows : Follows last' (after_step c.profile s agent step) w.line (step_seen c.profile s agent step) =
     subst (λ (v : List ℕ). Follows v (after_step c.profile s agent step) w.line (step_seen c.profile s agent step)) is (step_follows laws c last s agent line step w.line low allowed free kept stands.0) in
-    let known = store_known w (cache_flit agent (acts.Store (record { place = word; value = value })) no_words) (record { place = word; value = value }) last s refl placed stands.0 stands.1 follows.0 in
+    let known = store_known w agent (record { place = word; value = value }) no_words last s placed stands.0 stands.1 follows.0 in
     subst (λ (v : List ℕ). FollowsByWord v (after_step c.profile s agent step) w (step_seen c.profile s agent step)) (sym is) (known.0, (follows.1, known.1))
-step_follows_by_word laws c last s agent line other w low placed allowed free kept stands =
-    plain_follows (step_seen c.profile s agent other) w last (after_step c.profile s agent other) (plain_step c.profile s agent other refl) stands.1
-    (step_follows laws c last s agent line other w.line low allowed free kept stands.0)

@@ -79,6 +79,7 @@ taken_stands last s w n stands = record {
   home = stands.home;
   sound = stands.sound;
   meant = stands.meant;
+  value = stands.value;
   thrown = stands.thrown;
   lanes = λ m. let b = stands.lanes m in record { due_is = b.due_is; snooped_is = b.snooped_is; named = b.named; flagged = b.flagged; gone = b.gone; shared = b.shared };
 }

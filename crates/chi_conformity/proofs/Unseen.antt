@@ -87,6 +87,7 @@ quiet o s s' last n x moves same words stands own other = record {
   home = stands.home;
   sound = stands.sound;
   meant = meant_moved o s s' last stands.home n x moves same words stands.meant;
+  value = stands.value;
   thrown = stands.thrown;
   lanes = beside_moved (is_given_up s'.home.serving) s'.home.filter.unique o s s' n x moves own other;
 }
@@ -136,6 +137,7 @@ dropped laws o s last n low kept stands none clean =
       home = stands.home;
       sound = stands.sound;
       meant = laws.closed o _ _ stands.sound stands.meant drops;
+      value = stands.value;
       thrown = stands.thrown;
       lanes = beside_moved (is_given_up s.home.serving) s.home.filter.unique o s s' n x moves
           (record { due_is = b.due_is; snooped_is = b.snooped_is; named = b.named; flagged = b.flagged; gone = b.gone; shared = b.shared })
@@ -182,6 +184,7 @@ cancelled laws o s last n p low kept stands is phase =
       home = stands.home;
       sound = stands.sound;
       meant = laws.closed o _ _ stands.sound stands.meant cancels;
+      value = stands.value;
       thrown = stands.thrown;
       lanes = beside_moved (is_given_up s.home.serving) s.home.filter.unique o s s' n x moves
           (record { due_is = ap may_be_free due; snooped_is = b.snooped_is; named = b.named; flagged = b.flagged; gone = λ g. b.gone (or_in (is_evicting rn.pending) _ g); shared = b.shared })

@@ -9,7 +9,7 @@ use Rattle.chi_observer.specs.declared.flits.Flit.{Flit}
 use Rattle.chi_observer.specs.declared.flits.Stores.{Stores}
 use Rattle.chi_observer.specs.Lines.{Watched, nothing_watched}
 use Rattle.chi_observer.specs.Counted.{takes_counted, watch_counted}
-use Rattle.chi_observer.specs.ListedLines.{WatchedListed, is_taken_listed, nothing_listed, watch_listed}
+use Rattle.chi_observer.specs.WordedLines.{WatchedWords, nothing_worded, takes_by_word, watch_by_word}
 use Rattle.chi_conformity.specs.Seen.{step_seen}
 
 -- of an action on the line that is done; one that is refused sends nothing
@@ -34,15 +34,15 @@ AreTakenBy takes behind w (flit ∷ flits) = (takes w flit ≡ true) × AreTaken
 abbrev pub AreTaken : Watched → List Flit → Type 0
 AreTaken w flits = AreTakenBy takes_counted watch_counted w flits
 
-abbrev pub AreTakenByWord : WatchedListed → List Flit → Type 0
-AreTakenByWord w flits = AreTakenBy is_taken_listed watch_listed w flits
+abbrev pub AreTakenByWord : WatchedWords → List Flit → Type 0
+AreTakenByWord w flits = AreTakenBy takes_by_word watch_by_word w flits
 
 -- of each slice as it opens, each run, and each of its lines; whether stores may be hidden or all are listed
 abbrev pub SlicesConform : Type 0
 SlicesConform = (z : Stores) (config : Sizes) (index : ℕ) (actions : List Action) (l : ℕ) → are_in_limits config ≡ true → index < config.slices
     → is_line_in_range (opening_slice config index) l ≡ true → AreTaken (nothing_watched z) (run_seen (opening_slice config index) actions l)
 
--- and where all are listed, word by word
+-- and word by word
 abbrev pub SlicesConformByWord : Type 0
-SlicesConformByWord = (config : Sizes) (index : ℕ) (actions : List Action) (l : ℕ) → are_in_limits config ≡ true → index < config.slices
-    → is_line_in_range (opening_slice config index) l ≡ true → AreTakenByWord nothing_listed (run_seen (opening_slice config index) actions l)
+SlicesConformByWord = (z : Stores) (config : Sizes) (index : ℕ) (actions : List Action) (l : ℕ) → are_in_limits config ≡ true → index < config.slices
+    → is_line_in_range (opening_slice config index) l ≡ true → AreTakenByWord (nothing_worded z) (run_seen (opening_slice config index) actions l)

@@ -11,13 +11,16 @@ use Rattle.chi_observer.specs.declared.flits.Flit.{Flit}
 use Rattle.chi_observer.specs.declared.flits.Flit.TheVariants.{Up, Down}
 use Rattle.chi_observer.specs.declared.wanted.Wanted.{Wanted}
 use Rattle.chi_observer.specs.declared.wanted.Wanted.TheVariants as wants
-use Rattle.chi_observer.specs.Rules.{gives_data, has_data, lets_go, looks, tells_words}
+use Rattle.chi_observer.specs.Rules.{are_hidden, gives_data, has_data, lets_go, looks, stores, tells_words}
 use Rattle.chi_observer.specs.Tables.{renews, shows_told}
-use Rattle.chi_observer.specs.Listed.{no_words}
+use Rattle.chi_observer.specs.Worlds.{all_below}
+use Rattle.chi_observer.specs.Worded.{Words, agree, fits_known}
+use Rattle.chi_observer.specs.WordedLines.{WatchedWords, takes_by_word, watch_by_word}
 use Rattle.chi_observer.specs.Observed.{fits}
 use Rattle.chi_observer.specs.Lines.{Watched}
-use Rattle.chi_observer.specs.Counted.{may_tell, may_tell_store, takes_counted, watch_counted}
-use Rattle.chi_observer.specs.Wanted.{AnyWordsAreTaken, FreeWordsAreTaken, KnownWordsAreTaken, WordlessFlitsAreApart, flit_with, flit_words, is_wordless, reads_home, tells_cancelled, wanted, wanted_given, wanted_if, wanted_sent, with_home}
+use Rattle.chi_observer.specs.Counted.{may_tell, may_tell_store, takes_counted}
+use Rattle.chi_observer.specs.Wanted.{AnyWordsAreTaken, FreeWordsAreTaken, KnownWordsAreTaken, WordlessFlitsAreApart, flit_with, flit_words, homed, is_listed_store, is_wordless, reads_home, tells_cancelled, wanted, wanted_given, wanted_if, wanted_sent, wanted_words, with_home}
+use Rattle.chi_observer.proofs.DataInBeats.{either_way, wanted_as}
 use Rattle.chi_observe.specs.declared.ids.Later.{Later}
 use Rattle.chi_observe.specs.declared.ids.Later.TheVariants as laters
 use Rattle.chi_observe.specs.declared.lacking.Lacking.{Lacking}
@@ -30,7 +33,7 @@ use Rattle.chi_observe.specs.Lacking.{lacking_shown, lacking_with, may_show}
 use Rattle.chi_observe.specs.Lines.{LineState, apart_of, begun_next, early_by, early_of, flit_next, heard_by, is_given, is_passed, is_wanted_free, is_wanted_known, lacks_of, line_next, marked_words, next_by, presented, put_aside, shown_more, shown_next, shown_words, showing_by, takes_begun, takes_flit, takes_line, wanted_of, with_shown}
 use Rattle.chi_observe.specs.Marks.{Marked, marks_after, shows_words}
 use Rattle.chi_observe.specs.InBeats.{AreAlike, BeatsAreOneFlit, all_wordless, behind_all, in_one, in_two, is_told_any, judged_line, takes_all, told_of}
-use Rattle.chi_observe.specs.Words.{agrees, agrees_word, but_known, lacks_some, left_of, none_lack, with_known, word_at, word_with, words_with}
+use Rattle.chi_observe.specs.Words.{agrees, agrees_at, agrees_word, but_known, lacks_some, left_of, none_lack, with_known, word_at, word_with, words_with}
 use Rattle.chi_observe.proofs.EqualFlits.{words as same_words}
 
 -- marks
@@ -88,14 +91,6 @@ any_is_wanted h = search (rules, arith)
 known_is_wanted : wants.Known ≢ wants.Nothing
 known_is_wanted h = search (rules, arith)
 
-wanted_as : (w : Watched) (e : Flit) (words : List ℕ) → wanted w (flit_with e words) ≡ wanted w e
-wanted_as w (Up f) words = refl
-wanted_as w (Down g) words = refl
-
-either_way : (b : Bool) → (if b then wants.Nothing else wants.Nothing) ≡ wants.Nothing
-either_way true = refl
-either_way false = refl
-
 -- one part of what a line is told after the other
 takes_both : (before : Before) (home : NodeId) (s : LineState) (xs ys : List (ℕ × LineNews)) → takes_all before home s (xs ++ ys) ≡ (takes_all before home s xs && takes_all before home (behind_all before s xs) ys)
 takes_both before home s [] ys = refl
@@ -149,99 +144,123 @@ shows_nothing y f w =
     λ i. known i || read i
 
 -- a line that is judged, but for its marks: the home has these words beside what else is told
-abbrev line_of : NodeId → Lacking → List ℕ → Watched → Marked → LineState
-line_of h l v y m = record { home = h; aside = false; lacking = l; told = FromStart (with_home v y); marks = m }
+abbrev line_of : NodeId → Lacking → List ℕ → WatchedWords → Marked → LineState
+line_of h l v y m = record { home = h; aside = false; lacking = l; told = FromStart (homed v y); marks = m }
 
-record Runs (s : LineState) (h : NodeId) (l : Lacking) (v : List ℕ) (y : Watched) : Type 0 where
+-- where stores may be hidden no store is kept
+abbrev hides : WatchedWords → Bool
+hides y = are_hidden y.line.seen.public.stores
+
+unlisted : (y : WatchedWords) (f : Flit) → hides y ≡ true → is_listed_store y f ≡ false
+unlisted y (Up f) q = ap (λ (b : Bool). not b && stores f.act) q
+unlisted y (Down g) q = refl
+
+same_mode : (y : WatchedWords) (f : Flit) → hides (watch_by_word y f) ≡ hides y
+same_mode y (Up f) = refl
+same_mode y (Down g) = refl
+
+record Runs (s : LineState) (h : NodeId) (l : Lacking) (v : List ℕ) (y : WatchedWords) : Type 0 where
   pub marks : Marked
   pub is : s ≡ line_of h l v y marks
+  pub hidden : hides y ≡ true
 
-abbrev behind_it : Watched → Flit → Watched
-behind_it y f = if takes_counted y f then watch_counted y f else y
+abbrev behind_it : WatchedWords → Flit → WatchedWords
+behind_it y f = if takes_by_word y f then watch_by_word y f else y
+
+hides_behind : (y : WatchedWords) (f : Flit) → hides y ≡ true → hides (behind_it y f) ≡ true
+hides_behind y f q = go (takes_by_word y f)
+  where
+    go : (b : Bool) → hides (if b then watch_by_word y f else y) ≡ true
+    go true = same_mode y f ∙ q
+    go false = q
 
 abbrev is_early : Lacking → Bool
 is_early lacks.Data = false
 is_early other = true
 
-not_showing : (l : Lacking) (h : NodeId) (v : List ℕ) (y : Watched) (m : Marked) (f : Flit) → is_wordless f ≡ true → showing_by l (line_of h l v y m) f ≡ false
+not_showing : (l : Lacking) (h : NodeId) (v : List ℕ) (y : WatchedWords) (m : Marked) (f : Flit) → is_wordless f ≡ true → showing_by l (line_of h l v y m) f ≡ false
 not_showing lacks.Nothing h v y m f w = refl
 not_showing lacks.Data h v y m f w = refl
-not_showing (lacks.Words unknown others had) h v y m f w = ap (λ (b : Bool). b && may_show (lacks.Words unknown others had) (is_given f) (lacks_of f)) (shows_nothing (with_home v y) f w)
+not_showing (lacks.Words unknown others had) h v y m f w = ap (λ (b : Bool). b && may_show (lacks.Words unknown others had) (is_given f) (lacks_of f)) (shows_nothing (with_home v y.line) f w)
 
-goes_apart : (l : Lacking) (h : NodeId) (v : List ℕ) (y : Watched) (m : Marked) (f : Flit) → is_early l ≡ true → is_wordless f ≡ true → apart_of l (line_of h l v y m) f ≡ true
-goes_apart lacks.Nothing h v y m f e w = refl
-goes_apart lacks.Data h v y m f e w = untrue e
-goes_apart (lacks.Words unknown others had) h v y m f e w = ap (λ (b : Bool). (not b || is_wanted_free (wanted_of (line_of h (lacks.Words unknown others had) v y m) f)) && true) (shows_none f w)
+goes_apart : (l : Lacking) (h : NodeId) (v : List ℕ) (y : WatchedWords) (m : Marked) (f : Flit) → is_early l ≡ true → is_wordless f ≡ true → hides y ≡ true → apart_of l (line_of h l v y m) f ≡ true
+goes_apart lacks.Nothing h v y m f e w q = refl
+goes_apart lacks.Data h v y m f e w q = untrue e
+goes_apart (lacks.Words unknown others had) h v y m f e w q =
+    let none = shows_none f w in
+    let kept = unlisted (homed v y) f q in
+    λ i. (not (none i) || is_wanted_free (wanted_of (line_of h (lacks.Words unknown others had) v y m) f)) && not (kept i)
 
-heard_same : (l : Lacking) (h : NodeId) (v : List ℕ) (y : Watched) (m : Marked) (f : Flit) → is_wordless f ≡ true → heard_by l (line_of h l v y m) f ≡ f
+heard_same : (l : Lacking) (h : NodeId) (v : List ℕ) (y : WatchedWords) (m : Marked) (f : Flit) → is_wordless f ≡ true → heard_by l (line_of h l v y m) f ≡ f
 heard_same lacks.Nothing h v y m f w = refl
 heard_same lacks.Data h v y m f w = refl
 heard_same (lacks.Words unknown others had) h v y m f w =
     let s = line_of h (lacks.Words unknown others had) v y m in
-    ap (λ (b : Bool). if b && lacks_some (left_of unknown (lacks_of f)) then presented s f (lacks_of f) else f) (tells_none (with_home v y) f w)
+    ap (λ (b : Bool). if b && lacks_some (left_of unknown (lacks_of f)) then presented s f (lacks_of f) else f) (tells_none (with_home v y.line) f w)
 
 passed_by : (b : Bool) (t : Judged) → is_passed (known_if b t) ≡ b
 passed_by true t = refl
 passed_by false t = refl
 
-takes_step : WordlessFlitsAreApart → (before : Before) (home h : NodeId) (l : Lacking) (v : List ℕ) (y : Watched) (m : Marked) (n : ℕ) (f : Flit)
-    → is_early l ≡ true → is_wordless f ≡ true → takes_line before (line_of h l v y m) home n (news.Flit (Some f)) ≡ (h.0 == home.0 && takes_counted y f)
+takes_step : WordlessFlitsAreApart → (before : Before) (home h : NodeId) (l : Lacking) (v : List ℕ) (y : WatchedWords) (m : Marked) (n : ℕ) (f : Flit)
+    → is_early l ≡ true → is_wordless f ≡ true → hides y ≡ true → takes_line before (line_of h l v y m) home n (news.Flit (Some f)) ≡ (h.0 == home.0 && takes_by_word y f)
 unfolding takes_line
-takes_step apart before home h l v y m n f e w =
+takes_step apart before home h l v y m n f e w q =
     let s = line_of h l v y m in
-    let here : Flit → Bool = λ x. h.0 == home.0 && is_passed (known_if (takes_counted (with_home v y) x) (FromStart (watch_counted (with_home v y) x))) in
+    let here : Flit → Bool = λ x. h.0 == home.0 && is_passed (known_if (takes_by_word (homed v y) x) (FromStart (watch_by_word (homed v y) x))) in
     ap (λ (b : Bool). if b then takes_flit before s home n (Some (presented s f (lacks_of f))) else not (apart_of l s f) || here (heard_by l s f)) (not_showing l h v y m f w)
-    ∙ (ap (λ (b : Bool). not b || here (heard_by l s f)) (goes_apart l h v y m f e w)
+    ∙ (ap (λ (b : Bool). not b || here (heard_by l s f)) (goes_apart l h v y m f e w q)
     ∙ (ap here (heard_same l h v y m f w)
-    ∙ ap (λ (b : Bool). h.0 == home.0 && b) (passed_by (takes_counted (with_home v y) f) (FromStart (watch_counted (with_home v y) f)) ∙ (apart y v f w).0)))
+    ∙ ap (λ (b : Bool). h.0 == home.0 && b) (passed_by (takes_by_word (homed v y) f) (FromStart (watch_by_word (homed v y) f)) ∙ (apart y v f w (unlisted y f q)).0)))
 
 abbrev marks_at : Bool → ℕ → Flit → List ℕ → Marked → Marked
 marks_at b n f v m = if b then marks_after n f (Some v) m else m
 
-next_at : (b : Bool) (h : NodeId) (l : Lacking) (v : List ℕ) (y z : Watched) (m : Marked) (n : ℕ) (f : Flit)
-    → next_by (known_if b (FromStart (with_home v z))) (line_of h l v y m) n f ≡ line_of h l v (if b then z else y) (marks_at b n f v m)
+next_at : (b : Bool) (h : NodeId) (l : Lacking) (v : List ℕ) (y z : WatchedWords) (m : Marked) (n : ℕ) (f : Flit)
+    → next_by (known_if b (FromStart (homed v z))) (line_of h l v y m) n f ≡ line_of h l v (if b then z else y) (marks_at b n f v m)
 next_at true h l v y z m n f = refl
 next_at false h l v y z m n f = refl
 
-next_step : WordlessFlitsAreApart → (before : Before) (h : NodeId) (l : Lacking) (v : List ℕ) (y : Watched) (m : Marked) (n : ℕ) (f : Flit)
-    → is_early l ≡ true → is_wordless f ≡ true → line_next before (line_of h l v y m) n (news.Flit (Some f)) ≡ line_of h l v (behind_it y f) (marks_at (takes_counted y f) n f v m)
+next_step : WordlessFlitsAreApart → (before : Before) (h : NodeId) (l : Lacking) (v : List ℕ) (y : WatchedWords) (m : Marked) (n : ℕ) (f : Flit)
+    → is_early l ≡ true → is_wordless f ≡ true → hides y ≡ true → line_next before (line_of h l v y m) n (news.Flit (Some f)) ≡ line_of h l v (behind_it y f) (marks_at (takes_by_word y f) n f v m)
 unfolding line_next
-next_step apart before h l v y m n f e w =
+next_step apart before h l v y m n f e w q =
     let s = line_of h l v y m in
-    let same = apart y v f w in
+    let same = apart y v f w (unlisted y f q) in
     ap (λ (b : Bool). if b then shown_next before s n f (lacks_of f) (lacking_shown l (lacks_of f)) else (if apart_of l s f then flit_next before s n (Some (heard_by l s f)) else put_aside s)) (not_showing l h v y m f w)
-    ∙ (ap (λ (b : Bool). if b then flit_next before s n (Some (heard_by l s f)) else put_aside s) (goes_apart l h v y m f e w)
+    ∙ (ap (λ (b : Bool). if b then flit_next before s n (Some (heard_by l s f)) else put_aside s) (goes_apart l h v y m f e w q)
     ∙ (ap (λ (x : Flit). flit_next before s n (Some x)) (heard_same l h v y m f w)
     ∙ ((λ i. next_by (known_if (same.0 i) (FromStart (same.1 i))) s n f)
-    ∙ next_at (takes_counted y f) h l v y (watch_counted y f) m n f)))
+    ∙ next_at (takes_by_word y f) h l v y (watch_by_word y f) m n f)))
 
-runs_step : WordlessFlitsAreApart → (before : Before) (h : NodeId) (l : Lacking) (v : List ℕ) (y : Watched) (s : LineState) (n : ℕ) (f : Flit)
+runs_step : WordlessFlitsAreApart → (before : Before) (h : NodeId) (l : Lacking) (v : List ℕ) (y : WatchedWords) (s : LineState) (n : ℕ) (f : Flit)
     → is_early l ≡ true → is_wordless f ≡ true → Runs s h l v y → Runs (line_next before s n (news.Flit (Some f))) h l v (behind_it y f)
 runs_step apart before h l v y s n f e w r = record {
-  marks = marks_at (takes_counted y f) n f v r.marks;
-  is = ap (λ (x : LineState). line_next before x n (news.Flit (Some f))) r.is ∙ next_step apart before h l v y r.marks n f e w;
+  marks = marks_at (takes_by_word y f) n f v r.marks;
+  is = ap (λ (x : LineState). line_next before x n (news.Flit (Some f))) r.is ∙ next_step apart before h l v y r.marks n f e w r.hidden;
+  hidden = hides_behind y f r.hidden;
 }
 
 -- and all of them
-abbrev through : Watched → List (ℕ × Flit) → Watched
+abbrev through : WatchedWords → List (ℕ × Flit) → WatchedWords
 through y [] = y
 through y (p ∷ ps) = through (behind_it y p.1) ps
 
-abbrev taken_through : NodeId → NodeId → Watched → List (ℕ × Flit) → Bool
+abbrev taken_through : NodeId → NodeId → WatchedWords → List (ℕ × Flit) → Bool
 taken_through h home y [] = true
-taken_through h home y (p ∷ ps) = (h.0 == home.0 && takes_counted y p.1) && taken_through h home (behind_it y p.1) ps
+taken_through h home y (p ∷ ps) = (h.0 == home.0 && takes_by_word y p.1) && taken_through h home (behind_it y p.1) ps
 
 all_taken : WordlessFlitsAreApart → (before : Before) (home h : NodeId) (l : Lacking) (v : List ℕ) → is_early l ≡ true
-    → (ps : List (ℕ × Flit)) → all_wordless ps ≡ true → (s : LineState) (y : Watched) → Runs s h l v y → takes_all before home s (told_of ps) ≡ taken_through h home y ps
+    → (ps : List (ℕ × Flit)) → all_wordless ps ≡ true → (s : LineState) (y : WatchedWords) → Runs s h l v y → takes_all before home s (told_of ps) ≡ taken_through h home y ps
 all_taken apart before home h l v e [] w s y r = refl
 all_taken apart before home h l v e (p ∷ ps) w s y r =
     let own = both_left (is_wordless p.1) (all_wordless ps) w in
-    let here = ap (λ (x : LineState). takes_line before x home p.0 (news.Flit (Some p.1))) r.is ∙ takes_step apart before home h l v y r.marks p.0 p.1 e own in
+    let here = ap (λ (x : LineState). takes_line before x home p.0 (news.Flit (Some p.1))) r.is ∙ takes_step apart before home h l v y r.marks p.0 p.1 e own r.hidden in
     let rest = all_taken apart before home h l v e ps (both_right (is_wordless p.1) (all_wordless ps) w) (line_next before s p.0 (news.Flit (Some p.1))) (behind_it y p.1) (runs_step apart before h l v y s p.0 p.1 e own r) in
     λ i. here i && rest i
 
 all_run : WordlessFlitsAreApart → (before : Before) (h : NodeId) (l : Lacking) (v : List ℕ) → is_early l ≡ true
-    → (ps : List (ℕ × Flit)) → all_wordless ps ≡ true → (s : LineState) (y : Watched) → Runs s h l v y → Runs (behind_all before s (told_of ps)) h l v (through y ps)
+    → (ps : List (ℕ × Flit)) → all_wordless ps ≡ true → (s : LineState) (y : WatchedWords) → Runs s h l v y → Runs (behind_all before s (told_of ps)) h l v (through y ps)
 all_run apart before h l v e [] w s y r = r
 all_run apart before h l v e (p ∷ ps) w s y r =
     all_run apart before h l v e ps (both_right (is_wordless p.1) (all_wordless ps) w) (line_next before s p.0 (news.Flit (Some p.1))) (behind_it y p.1)
@@ -276,42 +295,42 @@ neither before home s one other a b = record {
   told = λ h. absurd (true≢false (sym h ∙ a));
 }
 
-takes_whole : (before : Before) (own home : NodeId) (w : Watched) (m : Marked) (n : ℕ) (e : Flit) → takes_line before (judged_line own w m) home n (news.Flit (Some e)) ≡ (own.0 == home.0 && takes_counted w e)
+takes_whole : (before : Before) (own home : NodeId) (w : WatchedWords) (m : Marked) (n : ℕ) (e : Flit) → takes_line before (judged_line own w m) home n (news.Flit (Some e)) ≡ (own.0 == home.0 && takes_by_word w e)
 unfolding takes_line
-takes_whole before own home w m n e = ap (λ (b : Bool). own.0 == home.0 && b) (passed_by (takes_counted w e) (FromStart (watch_counted w e)))
+takes_whole before own home w m n e = ap (λ (b : Bool). own.0 == home.0 && b) (passed_by (takes_by_word w e) (FromStart (watch_by_word w e)))
 
 -- ANY FLITS OF A LINE OF WHICH NO WORD LACKS
-record Stands (s : LineState) (h : NodeId) (x : Watched) : Type 0 where
+record Stands (s : LineState) (h : NodeId) (x : WatchedWords) : Type 0 where
   pub marks : Marked
   pub is : s ≡ judged_line h x marks
 
-marks_of : Bool → Watched → ℕ → Flit → Marked → Marked
-marks_of b x n f m = if b then marks_after n f x.seen.home m else m
+marks_of : Bool → WatchedWords → ℕ → Flit → Marked → Marked
+marks_of b x n f m = if b then marks_after n f x.line.seen.home m else m
 
-leads_at : (b : Bool) (h : NodeId) (x z : Watched) (m : Marked) (n : ℕ) (f : Flit) → next_by (known_if b (FromStart z)) (judged_line h x m) n f ≡ judged_line h (if b then z else x) (marks_of b z n f m)
+leads_at : (b : Bool) (h : NodeId) (x z : WatchedWords) (m : Marked) (n : ℕ) (f : Flit) → next_by (known_if b (FromStart z)) (judged_line h x m) n f ≡ judged_line h (if b then z else x) (marks_of b z n f m)
 unfolding marks_of
 leads_at true h x z m n f = refl
 leads_at false h x z m n f = refl
 
-stands_step : (before : Before) (h : NodeId) (x : Watched) (s : LineState) (n : ℕ) (f : Flit) (r : Stands s h x) → Stands (line_next before s n (news.Flit (Some f))) h (behind_it x f)
+stands_step : (before : Before) (h : NodeId) (x : WatchedWords) (s : LineState) (n : ℕ) (f : Flit) (r : Stands s h x) → Stands (line_next before s n (news.Flit (Some f))) h (behind_it x f)
 unfolding line_next
 stands_step before h x s n f r = record {
-  marks = marks_of (takes_counted x f) (watch_counted x f) n f r.marks;
-  is = ap (λ (y : LineState). line_next before y n (news.Flit (Some f))) r.is ∙ leads_at (takes_counted x f) h x (watch_counted x f) r.marks n f;
+  marks = marks_of (takes_by_word x f) (watch_by_word x f) n f r.marks;
+  is = ap (λ (y : LineState). line_next before y n (news.Flit (Some f))) r.is ∙ leads_at (takes_by_word x f) h x (watch_by_word x f) r.marks n f;
 }
 
-stand_all : (before : Before) (h : NodeId) (ps : List (ℕ × Flit)) (s : LineState) (x : Watched) → Stands s h x → Stands (behind_all before s (told_of ps)) h (through x ps)
+stand_all : (before : Before) (h : NodeId) (ps : List (ℕ × Flit)) (s : LineState) (x : WatchedWords) → Stands s h x → Stands (behind_all before s (told_of ps)) h (through x ps)
 stand_all before h [] s x r = r
 stand_all before h (p ∷ ps) s x r = stand_all before h ps (line_next before s p.0 (news.Flit (Some p.1))) (behind_it x p.1) (stands_step before h x s p.0 p.1 r)
 
-taken_all : (before : Before) (home h : NodeId) (ps : List (ℕ × Flit)) (s : LineState) (x : Watched) → Stands s h x → takes_all before home s (told_of ps) ≡ taken_through h home x ps
+taken_all : (before : Before) (home h : NodeId) (ps : List (ℕ × Flit)) (s : LineState) (x : WatchedWords) → Stands s h x → takes_all before home s (told_of ps) ≡ taken_through h home x ps
 taken_all before home h [] s x r = refl
 taken_all before home h (p ∷ ps) s x r =
     let here = ap (λ (y : LineState). takes_line before y home p.0 (news.Flit (Some p.1))) r.is ∙ takes_whole before h home x r.marks p.0 p.1 in
     let rest = taken_all before home h ps (line_next before s p.0 (news.Flit (Some p.1))) (behind_it x p.1) (stands_step before h x s p.0 p.1 r) in
     λ i. here i && rest i
 
-takes_held : (before : Before) (home h : NodeId) (x : Watched) (m : Marked) (k : ℕ) (same : Bool) → takes_line before (judged_line h x m) home k (news.Held same) ≡ same
+takes_held : (before : Before) (home h : NodeId) (x : WatchedWords) (m : Marked) (k : ℕ) (same : Bool) → takes_line before (judged_line h x m) home k (news.Held same) ≡ same
 unfolding takes_line
 takes_held before home h x m k same = refl
 
@@ -319,23 +338,23 @@ leaves_held : (before : Before) (s : LineState) (k : ℕ) (same : Bool) → line
 unfolding line_next
 leaves_held before s k same = refl
 
-takes_early : (before : Before) (own home : NodeId) (w : Watched) (m : Marked) (n : ℕ) (e : Flit) → takes_line before (judged_line own w m) home n (news.Early e) ≡ (own.0 == home.0 && takes_counted w e)
+takes_early : (before : Before) (own home : NodeId) (w : WatchedWords) (m : Marked) (n : ℕ) (e : Flit) → takes_line before (judged_line own w m) home n (news.Early e) ≡ (own.0 == home.0 && takes_by_word w e)
 unfolding takes_line
-takes_early before own home w m n e = ap (λ (b : Bool). own.0 == home.0 && b) (passed_by (takes_counted w e) (FromStart (watch_counted w e)))
+takes_early before own home w m n e = ap (λ (b : Bool). own.0 == home.0 && b) (passed_by (takes_by_word w e) (FromStart (watch_by_word w e)))
 
-stands_early : (before : Before) (h : NodeId) (x : Watched) (m : Marked) (n : ℕ) (e : Flit) → Stands (line_next before (judged_line h x m) n (news.Early e)) h (behind_it x e)
+stands_early : (before : Before) (h : NodeId) (x : WatchedWords) (m : Marked) (n : ℕ) (e : Flit) → Stands (line_next before (judged_line h x m) n (news.Early e)) h (behind_it x e)
 unfolding line_next
 stands_early before h x m n e = record {
-  marks = record (marks_of (takes_counted x e) (watch_counted x e) n e m) { words = m.words };
-  is = ap (marked_words m.words) (leads_at (takes_counted x e) h x (watch_counted x e) m n e);
+  marks = record (marks_of (takes_by_word x e) (watch_by_word x e) n e m) { words = m.words };
+  is = ap (marked_words m.words) (leads_at (takes_by_word x e) h x (watch_by_word x e) m n e);
 }
 
 -- data that the line is told of with all words, and whose later beats have them or others, beside the same data
 abbrev told_first : ℕ → ℕ → Flit → Bool → List (ℕ × Flit) → List (ℕ × LineNews)
 told_first n k e same ps = (n, news.Early e) ∷ (told_of ps ++ ((k, news.Held same) ∷ []))
 
-taken_first : (before : Before) (own home : NodeId) (w : Watched) (m : Marked) (n k : ℕ) (e : Flit) (same : Bool) (ps : List (ℕ × Flit))
-    → takes_all before home (judged_line own w m) (told_first n k e same ps) ≡ ((own.0 == home.0 && takes_counted w e) && (taken_through own home (behind_it w e) ps && same))
+taken_first : (before : Before) (own home : NodeId) (w : WatchedWords) (m : Marked) (n k : ℕ) (e : Flit) (same : Bool) (ps : List (ℕ × Flit))
+    → takes_all before home (judged_line own w m) (told_first n k e same ps) ≡ ((own.0 == home.0 && takes_by_word w e) && (taken_through own home (behind_it w e) ps && same))
 taken_first before own home w m n k e same ps =
     let s = judged_line own w m in
     let next = line_next before s n (news.Early e) in
@@ -350,13 +369,13 @@ taken_first before own home w m n k e same ps =
     λ i. first i && rest i
 
 -- and flits behind are taken alike, and tell the same, where what is told behind the data is the same
-beside : (before : Before) (own home : NodeId) (w : Watched) (m : Marked) (n k : ℕ) (e f : Flit) (ps : List (ℕ × Flit))
-    → takes_counted w e ≡ takes_counted w f → watch_counted w e ≡ watch_counted w f → AreAlike before home (judged_line own w m) (told_first n k e true ps) ((n, news.Flit (Some f)) ∷ told_of ps)
+beside : (before : Before) (own home : NodeId) (w : WatchedWords) (m : Marked) (n k : ℕ) (e f : Flit) (ps : List (ℕ × Flit))
+    → takes_by_word w e ≡ takes_by_word w f → watch_by_word w e ≡ watch_by_word w f → AreAlike before home (judged_line own w m) (told_first n k e true ps) ((n, news.Flit (Some f)) ∷ told_of ps)
 beside before own home w m n k e f ps taken next =
     let s = judged_line own w m in
     let one = line_next before s n (news.Early e) in
     let other = line_next before s n (news.Flit (Some f)) in
-    let at : Watched → Watched → (b : Bool) → Watched = λ y z b. if b then y else z in
+    let at : WatchedWords → WatchedWords → (b : Bool) → WatchedWords = λ y z b. if b then y else z in
     let same : behind_it w e ≡ behind_it w f = λ i. at (next i) w (taken i) in
     let run = stands_early before own w m n e in
     let run_other = stands_step before own w s n f (record { marks = m; is = refl }) in
@@ -367,7 +386,7 @@ beside before own home w m n k e f ps taken next =
           ∙ ((λ i. (own.0 == home.0 && taken i) && and_true (taken_through own home (same i) ps) i)
           ∙ sym (λ i. takes_whole before own home w m n f i && taken_all before home own ps other (behind_it w f) run_other i));
       told = λ h. ap (λ (y : LineState). y.told) (behind_both before one (told_of ps) ((k, news.Held true) ∷ []) ∙ leaves_held before (behind_all before one (told_of ps)) k true)
-          ∙ (ap (λ (y : LineState). y.told) behind.is ∙ (ap (λ (x : Watched). FromStart (through x ps)) same ∙ sym (ap (λ (y : LineState). y.told) behind_other.is)));
+          ∙ (ap (λ (y : LineState). y.told) behind.is ∙ (ap (λ (x : WatchedWords). FromStart (through x ps)) same ∙ sym (ap (λ (y : LineState). y.told) behind_other.is)));
     }
 
 -- WORDS THAT HAVE TO BE KNOWN, AND THAT TELL NOTHING
@@ -410,180 +429,366 @@ each_home None h give = untrue h
 each_home (Some u) h give = give u refl
 
 -- what is held against the later beats says what the data in beats are told as
-abbrev Alike : Before → NodeId → NodeId → Watched → Marked → ℕ → ℕ → Flit → List Bool → List ℕ → List (ℕ × Flit) → Option (Later × List ℕ) → Type 0
+abbrev Alike : Before → NodeId → NodeId → WatchedWords → Marked → ℕ → ℕ → Flit → List Bool → List ℕ → List (ℕ × Flit) → Option (Later × List ℕ) → Type 0
 Alike before own home w m n k e lacking words ps early = AreAlike before home (judged_line own w m) (in_two early n k e lacking words (told_of ps)) (in_one n e words ps)
 
-of_held : KnownWordsAreTaken → (before : Before) (own home : NodeId) (w : Watched) (m : Marked) (n k : ℕ) (e : Flit) (lacking : List Bool) (words u : List ℕ) (ps : List (ℕ × Flit)) (same : Bool)
-    → wanted w e ≡ wants.Known → w.seen.home ≡ Some u → IsData e → words_with (flit_words e) words lacking ≡ words
+of_held : KnownWordsAreTaken → (before : Before) (own home : NodeId) (w : WatchedWords) (m : Marked) (n k : ℕ) (e : Flit) (lacking : List Bool) (words u : List ℕ) (ps : List (ℕ × Flit)) (same : Bool)
+    → wanted w.line e ≡ wants.Known → w.line.seen.home ≡ Some u → IsData e → words_with (flit_words e) words lacking ≡ words
     → pointwise nat_eq (words_with (shown_words e) u lacking) words ≡ same
     → AreAlike before home (judged_line own w m) (told_first n k (flit_with e (words_with (shown_words e) u lacking)) same ps) (in_one n e words ps)
 of_held known before own home w m n k e lacking words u ps true is has d agree held =
     let x = words_with (shown_words e) u lacking in
     let as_it = (same_words x words).0 held in
-    beside before own home w m n k (flit_with e x) (flit_with e words) ps (ap (λ (v : List ℕ). takes_counted w (flit_with e v)) as_it) (ap (λ (v : List ℕ). watch_counted w (flit_with e v)) as_it)
+    beside before own home w m n k (flit_with e x) (flit_with e words) ps (ap (λ (v : List ℕ). takes_by_word w (flit_with e v)) as_it) (ap (λ (v : List ℕ). watch_by_word w (flit_with e v)) as_it)
 of_held known before own home w m n k e lacking words u ps false is has d agree held =
     let x = words_with (shown_words e) u lacking in
     let c = own.0 == home.0 in
     let s = judged_line own w m in
     let end = flit_with e words in
     let other : u ≡ words → x ≡ words = λ h. (λ i. words_with (d.words i) (h i) lacking) ∙ agree in
-    let refused : takes_counted w end ≡ false = by_bool (takes_counted w end)
-    (λ h. absurd (true≢false (sym ((same_words x words).1 (other (fits_home w.seen.home u words has (subst (λ (y : List ℕ). fits w.seen.home y ≡ true) (words_as e words) (known w end (wanted_as w e words ∙ is) h))))) ∙ held)))
+    let refused : takes_by_word w end ≡ false = by_bool (takes_by_word w end)
+    (λ h. absurd (true≢false (sym ((same_words x words).1 (other (fits_home w.line.seen.home u words has (subst (λ (y : List ℕ). fits w.line.seen.home y ≡ true) (words_as e words) (known w end (wanted_as w.line e words ∙ is) h))))) ∙ held)))
     (λ h. h) in
     let rest = taken_through own home (behind_it w (flit_with e x)) ps in
     neither before home s (told_first n k (flit_with e x) false ps) (in_one n e words ps)
-    (taken_first before own home w m n k (flit_with e x) false ps ∙ shut (c && takes_counted w (flit_with e x)) (rest && false) (shut rest false refl))
-    (ap (λ (b : Bool). b && takes_all before home (line_next before s n (news.Flit (Some end))) (told_of ps)) (takes_whole before own home w m n end ∙ shut c (takes_counted w end) refused))
+    (taken_first before own home w m n k (flit_with e x) false ps ∙ shut (c && takes_by_word w (flit_with e x)) (rest && false) (shut rest false refl))
+    (ap (λ (b : Bool). b && takes_all before home (line_next before s n (news.Flit (Some end))) (told_of ps)) (takes_whole before own home w m n end ∙ shut c (takes_by_word w end) refused))
 
-early_held : (w : Watched) (s : LineState) (e : Flit) (lacking : List Bool) (u : List ℕ) (l : Lacking) → l ≡ lacks.Nothing → wanted w e ≡ wants.Known → w.seen.home ≡ Some u
-    → early_by (wanted w e) (record s { lacking = lacks.Nothing; told = FromStart w }) e lacking ≡ Some (laters.Held, words_with (shown_words e) u lacking)
+early_held : (w : WatchedWords) (s : LineState) (e : Flit) (lacking : List Bool) (u : List ℕ) (l : Lacking) → l ≡ lacks.Nothing → wanted w.line e ≡ wants.Known → w.line.seen.home ≡ Some u
+    → early_by (wanted w.line e) (record s { lacking = lacks.Nothing; told = FromStart w }) e lacking ≡ Some (laters.Held, words_with (shown_words e) u lacking)
 early_held w s e lacking u l none is has =
     ap (λ (x : Wanted). early_by x (record s { lacking = lacks.Nothing; told = FromStart w }) e lacking) is
     ∙ ap (λ (o : Option (List ℕ)). option_map (λ (home : List ℕ). (laters.Held, words_with (shown_words e) home lacking)) o) has
 
-of_known : KnownWordsAreTaken → (before : Before) (own home : NodeId) (w : Watched) (m : Marked) (n k : ℕ) (e : Flit) (lacking : List Bool) (words : List ℕ) (ps : List (ℕ × Flit))
-    → wanted w e ≡ wants.Known → words_with (flit_words e) words lacking ≡ words → Alike before own home w m n k e lacking words ps (early_of (judged_line own w m) e lacking)
+of_known : KnownWordsAreTaken → (before : Before) (own home : NodeId) (w : WatchedWords) (m : Marked) (n k : ℕ) (e : Flit) (lacking : List Bool) (words : List ℕ) (ps : List (ℕ × Flit))
+    → wanted w.line e ≡ wants.Known → words_with (flit_words e) words lacking ≡ words → Alike before own home w m n k e lacking words ps (early_of (judged_line own w m) e lacking)
 of_known known before own home w m n k e lacking words ps is agree =
-    each_home w.seen.home (known_home w e is) (λ u has.
-    let d = is_data w e (λ none. known_is_wanted (sym is ∙ none)) in
+    each_home w.line.seen.home (known_home w.line e is) (λ u has.
+    let d = is_data w.line e (λ none. known_is_wanted (sym is ∙ none)) in
     subst (Alike before own home w m n k e lacking words ps) (sym (early_held w (judged_line own w m) e lacking u lacks.Nothing refl is has))
     (of_held known before own home w m n k e lacking words u ps (pointwise nat_eq (words_with (shown_words e) u lacking) words) is has d agree refl))
 
-of_free : FreeWordsAreTaken → (before : Before) (own home : NodeId) (w : Watched) (m : Marked) (n k : ℕ) (e : Flit) (lacking : List Bool) (words : List ℕ) (ps : List (ℕ × Flit))
-    → wanted w e ≡ wants.Free → Alike before own home w m n k e lacking words ps (early_of (judged_line own w m) e lacking)
+of_free : FreeWordsAreTaken → (before : Before) (own home : NodeId) (w : WatchedWords) (m : Marked) (n k : ℕ) (e : Flit) (lacking : List Bool) (words : List ℕ) (ps : List (ℕ × Flit))
+    → wanted w.line e ≡ wants.Free → Alike before own home w m n k e lacking words ps (early_of (judged_line own w m) e lacking)
 of_free free before own home w m n k e lacking words ps is =
     let x = shown_words e in
     subst (Alike before own home w m n k e lacking words ps) (sym (ap (λ (y : Wanted). early_by y (judged_line own w m) e lacking) is))
     (beside before own home w m n k (flit_with e x) (flit_with e words) ps
     ((free w x e is).0 ∙ sym (free w words e is).0) ((free w x e is).1 ∙ sym (free w words e is).1))
 
--- WORDS THAT MAY BE ANY
-abbrev home_words : Watched → Flit → List ℕ
-home_words w e = unwrap_or w.seen.home (shown_words e)
+-- WORDS THAT MAY BE ANY, BUT FOR THOSE THAT LOADS TOLD
+abbrev home_words : WatchedWords → Flit → List ℕ
+home_words w e = unwrap_or w.line.seen.home (shown_words e)
 
-abbrev first_words : Watched → Flit → List Bool → List ℕ
-first_words w e lacking = words_with (words_with (shown_words e) (with_known no_words (home_words w e)) lacking) (home_words w e) none_lack
+abbrev first_words : WatchedWords → Flit → List Bool → List ℕ
+first_words w e lacking = words_with (words_with (shown_words e) (with_known (wanted_words w e) (home_words w e)) lacking) (home_words w e) none_lack
 
-presented_is : (own : NodeId) (w : Watched) (m : Marked) (e : Flit) (lacking : List Bool) → IsData e → presented (judged_line own w m) e lacking ≡ flit_with e (first_words w e lacking)
+presented_is : (own : NodeId) (w : WatchedWords) (m : Marked) (e : Flit) (lacking : List Bool) → IsData e → presented (judged_line own w m) e lacking ≡ flit_with e (first_words w e lacking)
 presented_is own w m e lacking d = d.shown (first_words w e lacking)
 
--- the home's words behind the first beat
-abbrev begun_words : Watched → Flit → List Bool → List ℕ
+-- the home's words behind the first beat, and those that no flit has shown
+abbrev begun_words : WatchedWords → Flit → List Bool → List ℕ
 begun_words w e lacking = words_with (first_words w e lacking) (shown_words e) (left_of none_lack lacking)
 
-takes_begin : AnyWordsAreTaken → (before : Before) (own home : NodeId) (w : Watched) (m : Marked) (n : ℕ) (e : Flit) (lacking : List Bool) → wanted w e ≡ wants.Any
-    → takes_line before (judged_line own w m) home n (news.Begun e lacking) ≡ (own.0 == home.0 && takes_counted w e)
+abbrev left_unknown : WatchedWords → Flit → List Bool → List Bool
+left_unknown w e lacking = but_known (wanted_words w e) lacking
+
+-- the first beat is taken, and all of the data
+abbrev takes_first : WatchedWords → Flit → List Bool → Bool
+takes_first w e lacking = takes_counted w.line e && agree (wanted_words w e) (first_words w e lacking)
+
+takes_begin : AnyWordsAreTaken → (before : Before) (own home : NodeId) (w : WatchedWords) (m : Marked) (n : ℕ) (e : Flit) (lacking : List Bool) → wanted w.line e ≡ wants.Any
+    → takes_line before (judged_line own w m) home n (news.Begun e lacking) ≡ (own.0 == home.0 && takes_first w e lacking)
 unfolding takes_line
 takes_begin any before own home w m n e lacking is =
-    let d = is_data w e (λ none. any_is_wanted (sym is ∙ none)) in
+    let d = is_data w.line e (λ none. any_is_wanted (sym is ∙ none)) in
     let f = presented (judged_line own w m) e lacking in
-    ap (λ (x : Wanted). takes_begun (lacking_with lacks.Nothing x (is_given e) lacking no_words) before (judged_line own w m) home n f) is
-    ∙ ap (λ (b : Bool). own.0 == home.0 && b) (passed_by (takes_counted w f) (FromStart (watch_counted w f)) ∙ (ap (takes_counted w) (presented_is own w m e lacking d) ∙ (any w (first_words w e lacking) e is).0))
+    ap (λ (x : Wanted). takes_begun (lacking_with lacks.Nothing x (is_given e) lacking (wanted_words w e)) before (judged_line own w m) home n f) is
+    ∙ ap (λ (b : Bool). own.0 == home.0 && b) (passed_by (takes_by_word w f) (FromStart (watch_by_word w f)) ∙ (ap (takes_by_word w) (presented_is own w m e lacking d) ∙ (any w (first_words w e lacking) e is).0))
 
-begin_runs : AnyWordsAreTaken → (before : Before) (own : NodeId) (w : Watched) (m : Marked) (n : ℕ) (e : Flit) (lacking : List Bool) → wanted w e ≡ wants.Any → takes_counted w e ≡ true
-    → Runs (line_next before (judged_line own w m) n (news.Begun e lacking)) own (lacks.Words (but_known no_words lacking) 0 (is_given e)) (begun_words w e lacking) (watch_counted w e)
+begin_runs : AnyWordsAreTaken → (before : Before) (own : NodeId) (w : WatchedWords) (m : Marked) (n : ℕ) (e : Flit) (lacking : List Bool) → wanted w.line e ≡ wants.Any → hides w ≡ true → takes_first w e lacking ≡ true
+    → Runs (line_next before (judged_line own w m) n (news.Begun e lacking)) own (lacks.Words (left_unknown w e lacking) 0 (is_given e)) (begun_words w e lacking) (watch_by_word w e)
 unfolding line_next
-begin_runs any before own w m n e lacking is taken =
-    let d = is_data w e (λ none. any_is_wanted (sym is ∙ none)) in
+begin_runs any before own w m n e lacking is q taken =
+    let d = is_data w.line e (λ none. any_is_wanted (sym is ∙ none)) in
     let u = first_words w e lacking in
     let f = presented (judged_line own w m) e lacking in
     let as_it = presented_is own w m e lacking d in
-    let takes = ap (takes_counted w) as_it ∙ ((any w u e is).0 ∙ taken) in
-    let next = ap (watch_counted w) as_it ∙ (any w u e is).1 in
+    let takes = ap (takes_by_word w) as_it ∙ ((any w u e is).0 ∙ taken) in
+    let next = ap (watch_by_word w) as_it ∙ (any w u e is).1 in
     let s = judged_line own w m in
     record {
       marks = record (marks_after n f (Some u) m) { words = n };
-      is = ap (λ (x : Wanted). begun_next (lacking_with lacks.Nothing x (is_given e) lacking no_words) before s n e lacking) is
-          ∙ (λ i. marked_words n (record (shown_more (next_by (known_if (takes i) (FromStart (next i))) s n f) e lacking) { lacking = lacks.Words (but_known no_words lacking) 0 (is_given e) }));
+      is = ap (λ (x : Wanted). begun_next (lacking_with lacks.Nothing x (is_given e) lacking (wanted_words w e)) before s n e lacking) is
+          ∙ (λ i. marked_words n (record (shown_more (next_by (known_if (takes i) (FromStart (next i))) s n f) e lacking) { lacking = lacks.Words (left_unknown w e lacking) 0 (is_given e) }));
+      hidden = same_mode w e ∙ q;
     }
 
-whole_runs : AnyWordsAreTaken → (before : Before) (own : NodeId) (w : Watched) (m : Marked) (n : ℕ) (e : Flit) (v : List ℕ) → wanted w e ≡ wants.Any → takes_counted w e ≡ true
-    → Runs (line_next before (judged_line own w m) n (news.Flit (Some (flit_with e v)))) own lacks.Nothing v (watch_counted w e)
+whole_runs : AnyWordsAreTaken → (before : Before) (own : NodeId) (w : WatchedWords) (m : Marked) (n : ℕ) (e : Flit) (v : List ℕ) → wanted w.line e ≡ wants.Any → hides w ≡ true → (takes_counted w.line e && agree (wanted_words w e) v) ≡ true
+    → Runs (line_next before (judged_line own w m) n (news.Flit (Some (flit_with e v)))) own lacks.Nothing v (watch_by_word w e)
 unfolding line_next
-whole_runs any before own w m n e v is taken =
+whole_runs any before own w m n e v is q taken =
     let takes = (any w v e is).0 ∙ taken in
     let next = (any w v e is).1 in
     record {
       marks = marks_after n (flit_with e v) (Some v) m;
       is = λ i. next_by (known_if (takes i) (FromStart (next i))) (judged_line own w m) n (flit_with e v);
+      hidden = same_mode w e ∙ q;
     }
 
-takes_last : (before : Before) (home h : NodeId) (u : List Bool) (had : Bool) (v : List ℕ) (y : Watched) (m : Marked) (k : ℕ) (f : Flit)
+takes_last : (before : Before) (home h : NodeId) (u : List Bool) (had : Bool) (v : List ℕ) (y : WatchedWords) (m : Marked) (k : ℕ) (f : Flit)
     → takes_line before (line_of h (lacks.Words u 0 had) v y m) home k (news.Ended (Some f)) ≡ agrees u (Some v) (shown_words f)
 unfolding takes_line
 takes_last before home h u had v y m k f = refl
 
-told_last : (before : Before) (h : NodeId) (u : List Bool) (had : Bool) (v : List ℕ) (y : Watched) (m : Marked) (k : ℕ) (f : Flit)
-    → (line_next before (line_of h (lacks.Words u 0 had) v y m) k (news.Ended (Some f))).told ≡ FromStart (with_home (shown_words f) y)
+told_last : (before : Before) (h : NodeId) (u : List Bool) (had : Bool) (v : List ℕ) (y : WatchedWords) (m : Marked) (k : ℕ) (f : Flit)
+    → (line_next before (line_of h (lacks.Words u 0 had) v y m) k (news.Ended (Some f))).told ≡ FromStart (homed (shown_words f) y)
 unfolding line_next
 told_last before h u had v y m k f = refl
 
 same_number : (a : ℕ) → (a == a) ≡ true
 same_number a = search (rules, arith)
 
--- the last beat's words are those of the first one that don't lack
-one_agrees : (l : Bool) (a h x : ℕ) → x ≡ word_with a x l → agrees_word l (word_with a h l) x ≡ true
-one_agrees true a h x e = refl
-one_agrees false a h x e = ap (λ (y : ℕ). a == y) e ∙ same_number a
+-- a word is as known where the first beat's is, which has the known one where it lacks, and the last one's is the first one's
+-- where that was known
+one_place : (l : Bool) (k : Option ℕ) (a h x : ℕ) → x ≡ word_with a x l
+    → (fits_known k (word_with a (unwrap_or k h) l) && agrees_word (l && not (is_some k)) (word_with a (unwrap_or k h) l) x) ≡ fits_known k x
+one_place false k a h x e = ap (λ (b : Bool). fits_known k a && b) (ap (λ (y : ℕ). a == y) e ∙ same_number a) ∙ (and_true (fits_known k a) ∙ ap (fits_known k) (sym e))
+one_place true None a h x e = refl
+one_place true (Some c) a h x e = ap (λ (b : Bool). b && (c == x)) (same_number c)
 
-all_of : (a b c d e f g h : Bool) → a ≡ true → b ≡ true → c ≡ true → d ≡ true → e ≡ true → f ≡ true → g ≡ true → h ≡ true → (a && b && c && d && e && f && g && h) ≡ true
-all_of a b c d e f g h pa pb pc pd pe pf pg ph = λ i. pa i && pb i && pc i && pd i && pe i && pf i && pg i && ph i
+-- eight that are true
+record All (a b c d e f g h : Bool) : Type 0 where
+  pub p0 : a ≡ true
+  pub p1 : b ≡ true
+  pub p2 : c ≡ true
+  pub p3 : d ≡ true
+  pub p4 : e ≡ true
+  pub p5 : f ≡ true
+  pub p6 : g ≡ true
+  pub p7 : h ≡ true
 
-last_agrees : (w : Watched) (e : Flit) (lacking : List Bool) (words : List ℕ) → IsData e → words_with (flit_words e) words lacking ≡ words → agrees (but_known no_words lacking) (Some (begun_words w e lacking)) words ≡ true
-last_agrees w e lacking words d agree =
-    let own = shown_words e in
-    let word : (n : ℕ) → ℕ = λ n. slice_index_or own n 0 in
-    let old : (n : ℕ) → ℕ = λ n. slice_index_or (home_words w e) n 0 in
-    let as_own : words_with own words lacking ≡ words = ap (λ (v : List ℕ). words_with v words lacking) d.words ∙ agree in
-    let there : (n : ℕ) → slice_index_or words n 0 ≡ slice_index_or (words_with own words lacking) n 0 = λ n. ap (λ (v : List ℕ). slice_index_or v n 0) (sym as_own) in
-    let at : (n : ℕ) → slice_index_or words n 0 ≡ word_with (word n) (slice_index_or words n 0) (word_at lacking n) → agrees_word (word_at lacking n && true) (word_with (word n) (old n) (word_at lacking n)) (slice_index_or words n 0) ≡ true =
-    λ n same. ap (λ (b : Bool). agrees_word b (word_with (word n) (old n) (word_at lacking n)) (slice_index_or words n 0)) (and_true (word_at lacking n)) ∙ one_agrees (word_at lacking n) (word n) (old n) (slice_index_or words n 0) same in
-    all_of _ _ _ _ _ _ _ _ (at 0 (there 0)) (at 1 (there 1)) (at 2 (there 2)) (at 3 (there 3)) (at 4 (there 4)) (at 5 (there 5)) (at 6 (there 6)) (at 7 (there 7))
+all_of : (a b c d e f g h : Bool) → All a b c d e f g h → (a && b && c && d && e && f && g && h) ≡ true
+all_of a b c d e f g h p = λ i. p.p0 i && p.p1 i && p.p2 i && p.p3 i && p.p4 i && p.p5 i && p.p6 i && p.p7 i
 
-begun_alike : WordlessFlitsAreApart → AnyWordsAreTaken → (before : Before) (own home : NodeId) (w : Watched) (m : Marked) (n k : ℕ) (e : Flit) (lacking : List Bool) (words : List ℕ) (ps : List (ℕ × Flit)) (t : Bool)
-    → wanted w e ≡ wants.Any → words_with (flit_words e) words lacking ≡ words → all_wordless ps ≡ true → takes_counted w e ≡ t → Alike before own home w m n k e lacking words ps None
-begun_alike apart any before own home w m n k e lacking words ps false is agree ws taken =
+all_in : (a b c d e f g h : Bool) → (a && b && c && d && e && f && g && h) ≡ true → All a b c d e f g h
+all_in true true true true true true true true p = record { p0 = refl; p1 = refl; p2 = refl; p3 = refl; p4 = refl; p5 = refl; p6 = refl; p7 = refl }
+all_in false b c d e f g h p = untrue p
+all_in true false c d e f g h p = untrue p
+all_in true true false d e f g h p = untrue p
+all_in true true true false e f g h p = untrue p
+all_in true true true true false f g h p = untrue p
+all_in true true true true true false g h p = untrue p
+all_in true true true true true true false h p = untrue p
+all_in true true true true true true true false p = untrue p
+
+below_of : (f : ℕ → Bool) → All (f 0) (f 1) (f 2) (f 3) (f 4) (f 5) (f 6) (f 7) → all_below 8 f ≡ true
+below_of f p = λ i. p.p7 i && (p.p6 i && (p.p5 i && (p.p4 i && (p.p3 i && (p.p2 i && (p.p1 i && (p.p0 i && true)))))))
+
+below_nest : (a b c d e f g h : Bool) → (h && (g && (f && (e && (d && (c && (b && (a && true)))))))) ≡ true → All a b c d e f g h
+below_nest true true true true true true true true p = record { p0 = refl; p1 = refl; p2 = refl; p3 = refl; p4 = refl; p5 = refl; p6 = refl; p7 = refl }
+below_nest a b c d e f g false p = untrue p
+below_nest a b c d e f false true p = untrue p
+below_nest a b c d e false true true p = untrue p
+below_nest a b c d false true true true p = untrue p
+below_nest a b c false true true true true p = untrue p
+below_nest a b false true true true true true p = untrue p
+below_nest a false true true true true true true p = untrue p
+below_nest false true true true true true true true p = untrue p
+
+below_in : (f : ℕ → Bool) → all_below 8 f ≡ true → All (f 0) (f 1) (f 2) (f 3) (f 4) (f 5) (f 6) (f 7)
+below_in f p = below_nest (f 0) (f 1) (f 2) (f 3) (f 4) (f 5) (f 6) (f 7) p
+
+same_bool : (a b : Bool) → (a ≡ true → b ≡ true) → (b ≡ true → a ≡ true) → a ≡ b
+same_bool true b h k = sym (h refl)
+same_bool false true h k = k refl
+same_bool false false h k = refl
+
+-- the words of all beats are as known where those of the first one are, and the last one's agree
+module _ (w : WatchedWords) (e : Flit) (lacking : List Bool) (words : List ℕ) (d : IsData e) (own : words_with (flit_words e) words lacking ≡ words) where
+  abbrev known : Words
+  known = wanted_words w e
+
+  abbrev word : ℕ → ℕ
+  word n = slice_index_or (shown_words e) n 0
+
+  abbrev told : ℕ → ℕ
+  told n = slice_index_or words n 0
+
+  abbrev old : ℕ → ℕ
+  old n = slice_index_or (home_words w e) n 0
+
+  abbrev first_fits : ℕ → Bool
+  first_fits n = fits_known (known n) (slice_index_or (first_words w e lacking) n 0)
+
+  abbrev whole_fits : ℕ → Bool
+  whole_fits n = fits_known (known n) (told n)
+
+  abbrev last_fits : ℕ → Bool
+  last_fits n = agrees_at (left_unknown w e lacking) (begun_words w e lacking) words n
+
+  there : (n : ℕ) → told n ≡ slice_index_or (words_with (shown_words e) words lacking) n 0
+  there n = ap (λ (v : List ℕ). slice_index_or v n 0) (sym (ap (λ (v : List ℕ). words_with v words lacking) d.words ∙ own))
+
+  at : (n : ℕ) → told n ≡ word_with (word n) (told n) (word_at lacking n)
+      → (fits_known (known n) (word_with (word n) (unwrap_or (known n) (old n)) (word_at lacking n)) && agrees_word (word_at lacking n && not (is_some (known n))) (word_with (word n) (unwrap_or (known n) (old n)) (word_at lacking n)) (told n)) ≡ whole_fits n
+  at n same = one_place (word_at lacking n) (known n) (word n) (old n) (told n) same
+
+  at0 : (first_fits 0 && last_fits 0) ≡ whole_fits 0
+  at0 = at 0 (there 0)
+
+  at1 : (first_fits 1 && last_fits 1) ≡ whole_fits 1
+  at1 = at 1 (there 1)
+
+  at2 : (first_fits 2 && last_fits 2) ≡ whole_fits 2
+  at2 = at 2 (there 2)
+
+  at3 : (first_fits 3 && last_fits 3) ≡ whole_fits 3
+  at3 = at 3 (there 3)
+
+  at4 : (first_fits 4 && last_fits 4) ≡ whole_fits 4
+  at4 = at 4 (there 4)
+
+  at5 : (first_fits 5 && last_fits 5) ≡ whole_fits 5
+  at5 = at 5 (there 5)
+
+  at6 : (first_fits 6 && last_fits 6) ≡ whole_fits 6
+  at6 = at 6 (there 6)
+
+  at7 : (first_fits 7 && last_fits 7) ≡ whole_fits 7
+  at7 = at 7 (there 7)
+
+  joined : (agree known (first_words w e lacking) && agrees (left_unknown w e lacking) (Some (begun_words w e lacking)) words) ≡ true → agree known words ≡ true
+  joined h =
+      let p = below_in first_fits (both_left (agree known (first_words w e lacking)) _ h) in
+      let q = all_in (last_fits 0) (last_fits 1) (last_fits 2) (last_fits 3) (last_fits 4) (last_fits 5) (last_fits 6) (last_fits 7) (both_right (agree known (first_words w e lacking)) _ h) in
+      below_of whole_fits (record {
+        p0 = sym at0 ∙ both _ _ p.p0 q.p0;
+        p1 = sym at1 ∙ both _ _ p.p1 q.p1;
+        p2 = sym at2 ∙ both _ _ p.p2 q.p2;
+        p3 = sym at3 ∙ both _ _ p.p3 q.p3;
+        p4 = sym at4 ∙ both _ _ p.p4 q.p4;
+        p5 = sym at5 ∙ both _ _ p.p5 q.p5;
+        p6 = sym at6 ∙ both _ _ p.p6 q.p6;
+        p7 = sym at7 ∙ both _ _ p.p7 q.p7;
+      })
+
+  parted : agree known words ≡ true → (agree known (first_words w e lacking) && agrees (left_unknown w e lacking) (Some (begun_words w e lacking)) words) ≡ true
+  parted h =
+      let r = below_in whole_fits h in
+      let b0 = at0 ∙ r.p0 in
+      let b1 = at1 ∙ r.p1 in
+      let b2 = at2 ∙ r.p2 in
+      let b3 = at3 ∙ r.p3 in
+      let b4 = at4 ∙ r.p4 in
+      let b5 = at5 ∙ r.p5 in
+      let b6 = at6 ∙ r.p6 in
+      let b7 = at7 ∙ r.p7 in
+      both _ _
+      (below_of first_fits (record {
+        p0 = both_left (first_fits 0) (last_fits 0) b0;
+        p1 = both_left (first_fits 1) (last_fits 1) b1;
+        p2 = both_left (first_fits 2) (last_fits 2) b2;
+        p3 = both_left (first_fits 3) (last_fits 3) b3;
+        p4 = both_left (first_fits 4) (last_fits 4) b4;
+        p5 = both_left (first_fits 5) (last_fits 5) b5;
+        p6 = both_left (first_fits 6) (last_fits 6) b6;
+        p7 = both_left (first_fits 7) (last_fits 7) b7;
+      }))
+      (all_of (last_fits 0) (last_fits 1) (last_fits 2) (last_fits 3) (last_fits 4) (last_fits 5) (last_fits 6) (last_fits 7) (record {
+        p0 = both_right (first_fits 0) (last_fits 0) b0;
+        p1 = both_right (first_fits 1) (last_fits 1) b1;
+        p2 = both_right (first_fits 2) (last_fits 2) b2;
+        p3 = both_right (first_fits 3) (last_fits 3) b3;
+        p4 = both_right (first_fits 4) (last_fits 4) b4;
+        p5 = both_right (first_fits 5) (last_fits 5) b5;
+        p6 = both_right (first_fits 6) (last_fits 6) b6;
+        p7 = both_right (first_fits 7) (last_fits 7) b7;
+      }))
+
+  last_agrees : (agree known (first_words w e lacking) && agrees (left_unknown w e lacking) (Some (begun_words w e lacking)) words) ≡ agree known words
+  last_agrees = same_bool _ _ joined parted
+
+-- whether the first beat is taken, and whether the last one agrees
+abbrev agrees_last : WatchedWords → Flit → List Bool → List ℕ → Bool
+agrees_last w e lacking words = agrees (left_unknown w e lacking) (Some (begun_words w e lacking)) words
+
+takes_words : AnyWordsAreTaken → (w : WatchedWords) (e : Flit) (lacking : List Bool) (words : List ℕ) → wanted w.line e ≡ wants.Any → words_with (flit_words e) words lacking ≡ words
+    → takes_by_word w (flit_with e words) ≡ (takes_first w e lacking && agrees_last w e lacking words)
+takes_words any w e lacking words is own =
+    let d = is_data w.line e (λ none. any_is_wanted (sym is ∙ none)) in
+    (any w words e is).0
+    ∙ (ap (λ (b : Bool). takes_counted w.line e && b) (sym (last_agrees w e lacking words d own))
+    ∙ grouped (takes_counted w.line e) (agree (wanted_words w e) (first_words w e lacking)) (agrees_last w e lacking words))
+
+begun_alike : WordlessFlitsAreApart → AnyWordsAreTaken → (before : Before) (own home : NodeId) (w : WatchedWords) (m : Marked) (n k : ℕ) (e : Flit) (lacking : List Bool) (words : List ℕ) (ps : List (ℕ × Flit)) (t a : Bool)
+    → wanted w.line e ≡ wants.Any → words_with (flit_words e) words lacking ≡ words → hides w ≡ true → all_wordless ps ≡ true → takes_first w e lacking ≡ t → agrees_last w e lacking words ≡ a
+    → Alike before own home w m n k e lacking words ps None
+begun_alike apart any before own home w m n k e lacking words ps false a is fit q ws taken ends =
     let s = judged_line own w m in
     let c = own.0 == home.0 in
     let end = flit_with e words in
     neither before home s (in_two None n k e lacking words (told_of ps)) (in_one n e words ps)
-    (ap (λ (b : Bool). b && takes_all before home (line_next before s n (news.Begun e lacking)) (told_of ps ++ ((k, news.Ended (Some end)) ∷ []))) (takes_begin any before own home w m n e lacking is ∙ shut c (takes_counted w e) taken))
-    (ap (λ (b : Bool). b && takes_all before home (line_next before s n (news.Flit (Some end))) (told_of ps)) (takes_whole before own home w m n end ∙ shut c (takes_counted w end) ((any w words e is).0 ∙ taken)))
-begun_alike apart any before own home w m n k e lacking words ps true is agree ws taken =
+    (ap (λ (b : Bool). b && takes_all before home (line_next before s n (news.Begun e lacking)) (told_of ps ++ ((k, news.Ended (Some end)) ∷ []))) (takes_begin any before own home w m n e lacking is ∙ shut c (takes_first w e lacking) taken))
+    (ap (λ (b : Bool). b && takes_all before home (line_next before s n (news.Flit (Some end))) (told_of ps))
+    (takes_whole before own home w m n end ∙ shut c (takes_by_word w end) (takes_words any w e lacking words is fit ∙ ap (λ (b : Bool). b && agrees_last w e lacking words) taken)))
+begun_alike apart any before own home w m n k e lacking words ps true false is fit q ws taken ends =
     let s = judged_line own w m in
     let c = own.0 == home.0 in
     let end = flit_with e words in
-    let d = is_data w e (λ none. any_is_wanted (sym is ∙ none)) in
-    let z = watch_counted w e in
+    let d = is_data w.line e (λ none. any_is_wanted (sym is ∙ none)) in
+    let z = watch_by_word w e in
+    let v = begun_words w e lacking in
+    let begun = line_next before s n (news.Begun e lacking) in
+    let run = begin_runs any before own w m n e lacking is q taken in
+    let behind = all_run apart before own (lacks.Words (left_unknown w e lacking) 0 (is_given e)) v refl ps ws begun z run in
+    let first = takes_line before s home n (news.Begun e lacking) in
+    let last : (takes_line before (behind_all before begun (told_of ps)) home k (news.Ended (Some end)) && true) ≡ false =
+    ap (λ (y : LineState). takes_line before y home k (news.Ended (Some end)) && true) behind.is
+    ∙ ap (λ (b : Bool). b && true) (takes_last before home own (left_unknown w e lacking) (is_given e) v (through z ps) behind.marks k end ∙ (ap (λ (x : List ℕ). agrees (left_unknown w e lacking) (Some v) x) (d.all words) ∙ ends)) in
+    let rest = takes_both before home begun (told_of ps) ((k, news.Ended (Some end)) ∷ [])
+    ∙ shut (takes_all before home begun (told_of ps)) (takes_line before (behind_all before begun (told_of ps)) home k (news.Ended (Some end)) && true) last in
+    neither before home s (in_two None n k e lacking words (told_of ps)) (in_one n e words ps)
+    (shut first (takes_all before home begun (told_of ps ++ ((k, news.Ended (Some end)) ∷ []))) rest)
+    (ap (λ (b : Bool). b && takes_all before home (line_next before s n (news.Flit (Some end))) (told_of ps))
+    (takes_whole before own home w m n end ∙ shut c (takes_by_word w end) (takes_words any w e lacking words is fit ∙ shut (takes_first w e lacking) (agrees_last w e lacking words) ends)))
+begun_alike apart any before own home w m n k e lacking words ps true true is fit q ws taken ends =
+    let s = judged_line own w m in
+    let c = own.0 == home.0 in
+    let end = flit_with e words in
+    let d = is_data w.line e (λ none. any_is_wanted (sym is ∙ none)) in
+    let z = watch_by_word w e in
     let v = begun_words w e lacking in
     let begun = line_next before s n (news.Begun e lacking) in
     let whole = line_next before s n (news.Flit (Some end)) in
-    let run = begin_runs any before own w m n e lacking is taken in
-    let run_whole = whole_runs any before own w m n e words is taken in
-    let behind = all_run apart before own (lacks.Words (but_known no_words lacking) 0 (is_given e)) v refl ps ws begun z run in
+    let all_taken_here = takes_words any w e lacking words is fit ∙ both (takes_first w e lacking) (agrees_last w e lacking words) taken ends in
+    let run = begin_runs any before own w m n e lacking is q taken in
+    let run_whole = whole_runs any before own w m n e words is q (sym (any w words e is).0 ∙ all_taken_here) in
+    let behind = all_run apart before own (lacks.Words (left_unknown w e lacking) 0 (is_given e)) v refl ps ws begun z run in
     let behind_whole = all_run apart before own lacks.Nothing words refl ps ws whole z run_whole in
-    let first = takes_begin any before own home w m n e lacking is in
-    let entire = takes_whole before own home w m n end ∙ ap (λ (b : Bool). c && b) (any w words e is).0 in
+    let first = takes_begin any before own home w m n e lacking is ∙ ap (λ (b : Bool). c && b) taken in
+    let entire = takes_whole before own home w m n end ∙ ap (λ (b : Bool). c && b) all_taken_here in
     let last : (takes_line before (behind_all before begun (told_of ps)) home k (news.Ended (Some end)) && true) ≡ true =
     ap (λ (y : LineState). takes_line before y home k (news.Ended (Some end)) && true) behind.is
-    ∙ ap (λ (b : Bool). b && true) (takes_last before home own (but_known no_words lacking) (is_given e) v (through z ps) behind.marks k end ∙ (ap (λ (x : List ℕ). agrees (but_known no_words lacking) (Some v) x) (d.all words) ∙ last_agrees w e lacking words d agree)) in
+    ∙ ap (λ (b : Bool). b && true) (takes_last before home own (left_unknown w e lacking) (is_given e) v (through z ps) behind.marks k end ∙ (ap (λ (x : List ℕ). agrees (left_unknown w e lacking) (Some v) x) (d.all words) ∙ ends)) in
     let rest = takes_both before home begun (told_of ps) ((k, news.Ended (Some end)) ∷ [])
     ∙ (opened (takes_all before home begun (told_of ps)) (takes_line before (behind_all before begun (told_of ps)) home k (news.Ended (Some end)) && true) last
-    ∙ all_taken apart before home own (lacks.Words (but_known no_words lacking) 0 (is_given e)) v refl ps ws begun z run) in
+    ∙ all_taken apart before home own (lacks.Words (left_unknown w e lacking) 0 (is_given e)) v refl ps ws begun z run) in
     let others = all_taken apart before home own lacks.Nothing words refl ps ws whole z run_whole in
     record {
       taken = (λ i. first i && rest i) ∙ sym (λ i. entire i && others i);
       told = λ h. ap (λ (y : LineState). y.told) (behind_both before begun (told_of ps) ((k, news.Ended (Some end)) ∷ []))
           ∙ (ap (λ (y : LineState). (line_next before y k (news.Ended (Some end))).told) behind.is
-          ∙ (told_last before own (but_known no_words lacking) (is_given e) v (through z ps) behind.marks k end
-          ∙ (ap (λ (x : List ℕ). FromStart (with_home x (through z ps))) (d.all words) ∙ sym (ap (λ (y : LineState). y.told) behind_whole.is))));
+          ∙ (told_last before own (left_unknown w e lacking) (is_given e) v (through z ps) behind.marks k end
+          ∙ (ap (λ (x : List ℕ). FromStart (homed x (through z ps))) (d.all words) ∙ sym (ap (λ (y : LineState). y.told) behind_whole.is))));
     }
 
-of_any : WordlessFlitsAreApart → AnyWordsAreTaken → (before : Before) (own home : NodeId) (w : Watched) (m : Marked) (n k : ℕ) (e : Flit) (lacking : List Bool) (words : List ℕ) (ps : List (ℕ × Flit))
-    → wanted w e ≡ wants.Any → words_with (flit_words e) words lacking ≡ words → (not (is_told_any (wanted w e)) || all_wordless ps) ≡ true → Alike before own home w m n k e lacking words ps (early_of (judged_line own w m) e lacking)
+of_any : WordlessFlitsAreApart → AnyWordsAreTaken → (before : Before) (own home : NodeId) (w : WatchedWords) (m : Marked) (n k : ℕ) (e : Flit) (lacking : List Bool) (words : List ℕ) (ps : List (ℕ × Flit))
+    → wanted w.line e ≡ wants.Any → words_with (flit_words e) words lacking ≡ words → (not (is_told_any (wanted w.line e)) || (hides w && all_wordless ps)) ≡ true → Alike before own home w m n k e lacking words ps (early_of (judged_line own w m) e lacking)
 of_any apart any before own home w m n k e lacking words ps is agree ws =
+    let so = sym (ap (λ (y : Wanted). not (is_told_any y) || (hides w && all_wordless ps)) is) ∙ ws in
     subst (Alike before own home w m n k e lacking words ps) (sym (ap (λ (y : Wanted). early_by y (judged_line own w m) e lacking) is))
-    (begun_alike apart any before own home w m n k e lacking words ps (takes_counted w e) is agree (sym (ap (λ (y : Wanted). not (is_told_any y) || all_wordless ps) is) ∙ ws) refl)
+    (begun_alike apart any before own home w m n k e lacking words ps (takes_first w e lacking) (agrees_last w e lacking words) is agree (both_left (hides w) _ so) (both_right (hides w) _ so) refl refl)
 
 -- THE LAW
 by_wanted : {P : Type 0} (x : Wanted) → x ≢ wants.Nothing → (x ≡ wants.Known → P) → (x ≡ wants.Any → P) → (x ≡ wants.Free → P) → P
@@ -593,7 +798,7 @@ by_wanted wants.Any n known any free = any refl
 by_wanted wants.Free n known any free = free refl
 
 pub one_flit : WordlessFlitsAreApart → AnyWordsAreTaken → FreeWordsAreTaken → KnownWordsAreTaken → BeatsAreOneFlit
-one_flit apart any free known before own home w m e lacking words ps n k some agree ws = by_wanted (wanted w e) some
+one_flit apart any free known before own home w m e lacking words ps n k some agree ws = by_wanted (wanted w.line e) some
     (λ is. of_known known before own home w m n k e lacking words ps is agree)
     (λ is. of_any apart any before own home w m n k e lacking words ps is agree ws)
     (λ is. of_free free before own home w m n k e lacking words ps is)

@@ -5,13 +5,12 @@ use Rattle.std.proofs.lemmas.Bool.Decides.{Decides-and, Decides-eqb, Decides-lik
 use mathlib.Core.Bool.{beq}
 use Rattle.chi_observer.specs.Arrivals.{Arrived}
 use Rattle.chi_observer.specs.Begun.{Beginning}
-use Rattle.chi_observer.specs.Lines.{Watched as Told}
-use Rattle.chi_observer.specs.ListedLines.{WatchedListed}
+use Rattle.chi_observer.specs.WordedLines.{WatchedWords}
 use Rattle.chi_trace.specs.contracts.fields.NodeIdPartialEq.TheImpl as node_eq
 use Rattle.chi_observe.specs.Benches.{Benched}
 use Rattle.chi_observe.specs.Bounded.{Bounded}
 use Rattle.chi_observe.specs.Judges.{Judged}
-use Rattle.chi_observe.specs.Judges.Judged.{FromStart, FromListed, FromMiddle, AtHome}
+use Rattle.chi_observe.specs.Judges.Judged.{FromStart, FromMiddle, AtHome}
 use Rattle.chi_observe.specs.Lines.{LineState}
 use Rattle.chi_observe.specs.Marks.{Marked}
 use Rattle.chi_observe.specs.Watched.{Watched}
@@ -23,33 +22,21 @@ use Rattle.chi_observe.proofs.EqualFlits.{mark, marks, node}
 use Rattle.chi_observe.proofs.EqualIds.{room}
 
 -- what judges a line
-abbrev start_of : Told → Judged → Told
+abbrev start_of : WatchedWords → Judged → WatchedWords
 start_of other (FromStart told) = told
-start_of other (FromListed told) = other
 start_of other (FromMiddle begun synced) = other
 start_of other (AtHome own) = other
 
-pub start_same : (a b : Told) (r : Bool) → Decides r (a ≡ b) → Decides r (FromStart a ≡ FromStart b)
+pub start_same : (a b : WatchedWords) (r : Bool) → Decides r (a ≡ b) → Decides r (FromStart a ≡ FromStart b)
 start_same a b r h = Decides-like r (ap FromStart) (ap (start_of a)) h
-
-abbrev listed_of : WatchedListed → Judged → WatchedListed
-listed_of other (FromStart told) = other
-listed_of other (FromListed told) = told
-listed_of other (FromMiddle begun synced) = other
-listed_of other (AtHome own) = other
-
-pub start_listed_same : (a b : WatchedListed) (r : Bool) → Decides r (a ≡ b) → Decides r (FromListed a ≡ FromListed b)
-start_listed_same a b r h = Decides-like r (ap FromListed) (ap (listed_of a)) h
 
 abbrev begun_of : Beginning → Judged → Beginning
 begun_of other (FromStart told) = other
-begun_of other (FromListed told) = other
 begun_of other (FromMiddle begun synced) = begun
 begun_of other (AtHome own) = other
 
 abbrev synced_of : Judged → ℕ
 synced_of (FromStart told) = 0
-synced_of (FromListed told) = 0
 synced_of (FromMiddle begun synced) = synced
 synced_of (AtHome own) = 0
 
@@ -58,7 +45,6 @@ middle_same a b m n r h = Decides-like ((m == n) && r) (λ e i. FromMiddle (e.1 
 
 abbrev arrived_of : Arrived → Judged → Arrived
 arrived_of other (FromStart told) = other
-arrived_of other (FromListed told) = other
 arrived_of other (FromMiddle begun synced) = other
 arrived_of other (AtHome own) = own
 

@@ -8,10 +8,10 @@ use Rattle.std.specs.Bool.{Decides}
 use Rattle.std.specs.Prelude.{nat_lt, if◌then◌else◌}
 use Rattle.chi_observer.specs.Rules.{word_at}
 use Rattle.chi_observer.specs.Lines.{watched as told_of}
-use Rattle.chi_observer.specs.Listed.{Words}
-use Rattle.chi_observer.specs.ListedLines.{listed_watched, words_of}
-use Rattle.chi_observer.specs.declared.listed.KnownWords.{KnownWords}
-use Rattle.chi_observer.specs.declared.listed.ListedObserver.{ListedObserver}
+use Rattle.chi_observer.specs.Worded.{Words}
+use Rattle.chi_observer.specs.WordedLines.{words_watched, words_of}
+use Rattle.chi_observer.specs.declared.worded.KnownWords.{KnownWords}
+use Rattle.chi_observer.specs.declared.worded.WordedObserver.{WordedObserver}
 use Rattle.chi_observe.proofs.EqualWatches.{split}
 
 abbrev pub AreSameBelow : ℕ → Words → Words → Type 0
@@ -60,6 +60,6 @@ words_same a b r la lb h =
     (λ e n low i. e i n)
     h
 
-pub listed_same : (a b : ListedObserver) (o w : Bool) → Decides o (told_of a.seen ≡ told_of b.seen) → Decides w (words_of a.words ≡ words_of b.words) → Decides (o && w) (listed_watched a ≡ listed_watched b)
-listed_same a b o w observer words =
+pub worded_same : (a b : WordedObserver) (o w : Bool) → Decides o (told_of a.seen ≡ told_of b.seen) → Decides w (words_of a.words ≡ words_of b.words) → Decides (o && w) (words_watched a ≡ words_watched b)
+worded_same a b o w observer words =
     Decides-like (o && w) (λ e i. record { line = e.0 i; words = e.1 i }) (λ e. (ap (λ x. x.line) e, ap (λ x. x.words) e)) (Decides-and _ _ observer words)

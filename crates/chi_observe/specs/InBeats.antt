@@ -5,7 +5,8 @@ use Rattle.chi_trace.specs.declared.fields.NodeId.{NodeId}
 use Rattle.chi_observer.specs.declared.flits.Flit.{Flit}
 use Rattle.chi_observer.specs.declared.wanted.Wanted.{Wanted}
 use Rattle.chi_observer.specs.declared.wanted.Wanted.TheVariants as wants
-use Rattle.chi_observer.specs.Lines.{Watched}
+use Rattle.chi_observer.specs.Rules.{are_hidden}
+use Rattle.chi_observer.specs.WordedLines.{WatchedWords}
 use Rattle.chi_observer.specs.Wanted.{flit_with, flit_words, is_wordless, wanted}
 use Rattle.chi_observe.specs.declared.ids.Later.{Later}
 use Rattle.chi_observe.specs.declared.ids.Later.TheVariants as laters
@@ -29,7 +30,7 @@ behind_all before s [] = s
 behind_all before s (told ∷ rest) = behind_all before (line_next before s told.0 told.1) rest
 
 -- a line that is judged from the trace's beginning, where no data lack words
-abbrev pub judged_line : NodeId → Watched → Marked → LineState
+abbrev pub judged_line : NodeId → WatchedWords → Marked → LineState
 judged_line home w marks = record { home = home; aside = false; lacking = lacks.Nothing; told = FromStart w; marks = marks }
 
 abbrev pub told_of : List (ℕ × Flit) → List (ℕ × LineNews)
@@ -68,9 +69,10 @@ pub record AreAlike (before : Before) (home : NodeId) (s : LineState) (one other
 
 -- THE LAW
 -- of data that the line is told of at their first beat, which has the words that don't lack, and of any flits between their
--- beats; where the words may be any and are told, of such as have no words of the line and are no loads
+-- beats; where the words may be any and are told, of a line whose stores may be hidden, and of such as have no words of it and
+-- are no loads
 abbrev pub BeatsAreOneFlit : Type 0
-BeatsAreOneFlit = (before : Before) (own home : NodeId) (w : Watched) (marks : Marked) (flit : Flit) (lacking : List Bool) (words : List ℕ) (between : List (ℕ × Flit)) (first last : ℕ)
-    → wanted w flit ≢ wants.Nothing → words_with (flit_words flit) words lacking ≡ words
-    → (not (is_told_any (wanted w flit)) || all_wordless between) ≡ true
+BeatsAreOneFlit = (before : Before) (own home : NodeId) (w : WatchedWords) (marks : Marked) (flit : Flit) (lacking : List Bool) (words : List ℕ) (between : List (ℕ × Flit)) (first last : ℕ)
+    → wanted w.line flit ≢ wants.Nothing → words_with (flit_words flit) words lacking ≡ words
+    → (not (is_told_any (wanted w.line flit)) || (are_hidden w.line.seen.public.stores && all_wordless between)) ≡ true
     → AreAlike before home (judged_line own w marks) (in_beats (judged_line own w marks) first last flit lacking words between) (in_one first flit words between)

@@ -1,27 +1,23 @@
--- What judges the flits of a line: from the trace's beginning, where all stores are listed by its words too
--- (docs/OBSERVER.md, "Stores that are listed"), from the middle of a longer one (docs/OBSERVER.md, "A trace that begins in
--- the middle"), or where the home receives them (docs/OBSERVER.md, "Seen at the home").
+-- What judges the flits of a line: from the trace's beginning, by its words too (docs/OBSERVER.md, "Words that are known"),
+-- from the middle of a longer one (docs/OBSERVER.md, "A trace that begins in the middle"), or where the home receives them
+-- (docs/OBSERVER.md, "Seen at the home").
 use Rattle.std.specs.Prelude.{ℕ, zero, suc, Bool, true, false, not, List, Result, Ok, Err, nat_lt, if◌then◌else◌}
 use Rattle.std.specs.List.{slice_index_or}
-use Rattle.chi_observer.specs.declared.flits.Act.{Act}
-use Rattle.chi_observer.specs.declared.flits.Act.TheVariants.{NonCopyBackWrData}
 use Rattle.chi_observer.specs.declared.flits.Flit.{Flit}
 use Rattle.chi_observer.specs.declared.flits.Flit.TheVariants.{Up}
 use Rattle.chi_observer.specs.declared.flits.Stores.{Stores}
-use Rattle.chi_observer.specs.declared.flits.Stores.TheVariants.{Hidden, Listed}
 use Rattle.chi_observer.specs.declared.observer.Reason.{Reason}
 use Rattle.chi_observer.specs.declared.arrivals.Untaken.{Untaken}
 use Rattle.chi_observer.specs.declared.arrivals.Untaken.TheVariants.{Fault, SetAside}
-use Rattle.chi_observer.specs.Lines.{Watched, is_reason, nothing_watched, watched}
-use Rattle.chi_observer.specs.Counted.{counted, takes_counted, watch_counted}
-use Rattle.chi_observer.specs.ListedLines.{WatchedListed, is_listed_reason, is_taken_listed, listed_in, listed_watched, nothing_listed, watch_listed}
+use Rattle.chi_observer.specs.Lines.{Watched}
+use Rattle.chi_observer.specs.Counted.{counted}
+use Rattle.chi_observer.specs.WordedLines.{WatchedWords, is_worded_reason, nothing_worded, takes_by_word, watch_by_word, words_watched}
 use Rattle.chi_observer.specs.Begun.{Beginning, begun, begun_after, forgetting, is_begun_reason, nothing_begun, takes_begun}
 use Rattle.chi_observer.specs.Arrivals.{Arrived, Outcome, arrived, is_untaken, nothing_arrived, outcome}
 use Rattle.chi_observer.specs.Arrivals.Outcome.{Taken, NotTaken, LeftOpen as LeftAtHome}
 use Rattle.chi_observer.specs.Arriving.{holds_none}
-use Rattle.chi_observer.specs.Listed.{Words, known_words, no_words}
-use Rattle.chi_observer.specs.Rules.{stores}
-use Rattle.chi_observer.specs.Wanted.{wanted, with_home}
+use Rattle.chi_observer.specs.Worded.{Words, no_words}
+use Rattle.chi_observer.specs.Wanted.{homed, is_listed_store, wanted, wanted_words}
 use Rattle.chi_observer.specs.declared.wanted.Wanted.{Wanted}
 use Rattle.chi_observer.specs.declared.wanted.Wanted.TheVariants.{Nothing}
 use Rattle.chi_observe.specs.declared.judges.Before.{Before as CodeBefore}
@@ -49,8 +45,7 @@ is_at_home options = is_of_home options.log
 
 -- with the number of the trace's line that a line from the middle was told last, or that came before its first
 pub data Judged : Type 0 where
-  FromStart : Watched → Judged
-  FromListed : WatchedListed → Judged
+  FromStart : WatchedWords → Judged
   FromMiddle : Beginning → ℕ → Judged
   AtHome : Arrived → Judged
 
@@ -58,8 +53,7 @@ abbrev pub line_judged : BegunLine → Judged
 line_judged line = FromMiddle (begun line.begun) line.synced
 
 abbrev pub judged : {A : Type 0} → Judge A → Judged
-judged (judges.Whole observer) = FromStart (watched observer)
-judged (judges.Listed observer) = FromListed (listed_watched observer)
+judged (judges.Whole observer) = FromStart (words_watched observer)
 judged (judges.Begun line) = line_judged line.value
 judged (judges.Home line) = AtHome (arrived line.value)
 
@@ -75,12 +69,8 @@ last_of last n = slice_index_or last n 0
 abbrev pub before_of : CodeBefore → Before
 before_of before = record { log = before.log; stores = before.stores; last = last_of before.last.now }
 
-abbrev pub opened_whole : Stores → Judged
-opened_whole Hidden = FromStart (nothing_watched Hidden)
-opened_whole Listed = FromListed nothing_listed
-
 abbrev pub opened_from : Log → Stores → ℕ → Judged
-opened_from Whole z number = opened_whole z
+opened_from Whole z number = FromStart (nothing_worded z)
 opened_from Tail z number = FromMiddle (nothing_begun z) number
 opened_from Home z number = AtHome nothing_arrived
 
@@ -110,8 +100,7 @@ home_verdict NotTaken = Faulty
 home_verdict LeftAtHome = LeftOpen
 
 abbrev pub verdict : Before → ℕ → Judged → Flit → Verdict
-verdict before number (FromStart w) flit = known_if (takes_counted w flit) (FromStart (watch_counted w flit))
-verdict before number (FromListed l) flit = known_if (is_taken_listed l flit) (FromListed (watch_listed l flit))
+verdict before number (FromStart l) flit = known_if (takes_by_word l flit) (FromStart (watch_by_word l flit))
 verdict before number (FromMiddle b synced) flit = known_if (takes_begun (woken before synced b) flit) (FromMiddle (begun_after (woken before synced b) flit) number)
 verdict before number (AtHome a) flit = home_verdict (outcome a flit)
 
@@ -125,8 +114,7 @@ fault_of (Ok done) = Ok done
 fault_of (Err reason) = Err (Fault reason)
 
 abbrev pub is_judge_reason : Before → Judged → Flit → Reason → Bool
-is_judge_reason before (FromStart w) flit reason = is_reason w (counted w flit) reason
-is_judge_reason before (FromListed l) flit reason = is_listed_reason l flit reason
+is_judge_reason before (FromStart l) flit reason = is_worded_reason l (counted l.line flit) reason
 is_judge_reason before (FromMiddle b synced) flit reason = is_begun_reason (woken before synced b) flit reason
 is_judge_reason before (AtHome a) flit reason = is_untaken a flit (Fault reason)
 
@@ -136,34 +124,27 @@ is_judge_fault before told flit (SetAside aside) = true
 
 -- what is told
 abbrev pub told_in : Judged → Watched
-told_in (FromStart w) = w
-told_in (FromListed l) = l.line
+told_in (FromStart l) = l.line
 told_in (FromMiddle b synced) = b.seen
 told_in (AtHome a) = a.line
 
 -- what the words of data have to be that come in beats, where the line is told of them at their first one
 abbrev pub wanted_in : Judged → Flit → Wanted
-wanted_in (FromStart w) flit = wanted w flit
-wanted_in (FromListed l) flit = wanted l.line flit
+wanted_in (FromStart l) flit = wanted l.line flit
 wanted_in told flit = Nothing
 
 -- the home has these words
 abbrev pub worded : List ℕ → Judged → Judged
-worded words (FromStart w) = FromStart (with_home words w)
-worded words (FromListed l) = FromListed (record l { line = with_home words l.line })
+worded words (FromStart l) = FromStart (homed words l)
 worded words told = told
 
--- and those of data of a copy besides: where all stores are listed, the words that loads and stores told; and such a store
-abbrev pub told_by : Act → Words → Words
-told_by NonCopyBackWrData known = no_words
-told_by act known = known
-
+-- and those of data of a copy besides, which loads and stores told; and a store, where all are listed
 abbrev pub told_words : Judged → Flit → Words
-told_words (FromListed l) (Up sent) = told_by sent.act (known_words (listed_in l))
+told_words (FromStart l) flit = wanted_words l flit
 told_words told flit = no_words
 
 abbrev pub keeps_store : Judged → Flit → Bool
-keeps_store (FromListed l) (Up sent) = stores sent.act
+keeps_store (FromStart l) flit = is_listed_store l flit
 keeps_store told flit = false
 
 -- a request of the agent came that isn't told yet

@@ -2,7 +2,7 @@
 use Rattle.std.specs.Prelude.{ℕ, zero, suc, ◌+◌, ◌&&◌, ◌||◌, Bool, true, false, not, List, Option, Some, None, if◌then◌else◌, nat_lt}
 use Rattle.chi_observer.specs.declared.wanted.Wanted.{Wanted}
 use Rattle.chi_observer.specs.declared.wanted.Wanted.TheVariants as wants
-use Rattle.chi_observer.specs.Listed.{Words}
+use Rattle.chi_observer.specs.Worded.{Words}
 use Rattle.chi_observe.specs.declared.lacking.Lacking.{Lacking}
 use Rattle.chi_observe.specs.declared.lacking.Lacking.TheVariants as lacks
 use Rattle.chi_observe.specs.Words.{but_known, lacks_some, left_of, none_lack, unknown_behind}

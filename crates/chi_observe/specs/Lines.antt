@@ -12,7 +12,7 @@ use Rattle.chi_observer.specs.declared.flits.Flit.TheVariants.{Up, Down}
 use Rattle.chi_observer.specs.declared.observer.Reason.TheVariants.{OtherWords}
 use Rattle.chi_observer.specs.declared.wanted.Wanted.{Wanted}
 use Rattle.chi_observer.specs.declared.wanted.Wanted.TheVariants as wants
-use Rattle.chi_observer.specs.Listed.{Words}
+use Rattle.chi_observer.specs.Worded.{Words}
 use Rattle.chi_observer.specs.Counted.{may_tell}
 use Rattle.chi_observer.specs.Wanted.{reads_home}
 use Rattle.chi_ids.specs.declared.keys.CacheLine.{CacheLine}

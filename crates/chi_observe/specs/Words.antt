@@ -1,7 +1,7 @@
 -- The words of a line, some of which lack (docs/OBSERVER.md, "Data in beats").
 use Rattle.std.specs.Prelude.{ℕ, ◌==◌, ◌&&◌, ◌||◌, Bool, false, not, List, [], ◌∷◌, Option, Some, None, if◌then◌else◌, is_some, replicate, unwrap_or}
 use Rattle.std.specs.List.{list_any, slice_index_or}
-use Rattle.chi_observer.specs.Listed.{Words}
+use Rattle.chi_observer.specs.Worded.{Words}
 
 -- words in the places of those that are there
 abbrev pub word_at : List Bool → ℕ → Bool

@@ -5,7 +5,7 @@ ghost use Rattle.std.specs.Bool.{IsTrue};
 ghost use Rattle.chi_observer.specs.Arrivals.{arrived, arriving_of};
 ghost use Rattle.chi_observer.specs.Begun.{begun, mark_of};
 ghost use Rattle.chi_observer.specs.Lines.{agent_of, shown_of, watched as told_of};
-ghost use Rattle.chi_observer.specs.ListedLines.{listed_watched, words_of};
+ghost use Rattle.chi_observer.specs.WordedLines.{words_watched, words_of};
 ghost use Rattle.chi_observer.specs.Worlds.{all_below};
 ghost use Rattle.chi_observe.specs.Benches.{benched};
 ghost use Rattle.chi_observe.specs.Bounded.{bounded};
@@ -25,7 +25,7 @@ use crate::lines::{LineSeen, LineTable};
 use crate::marks::Marks;
 use crate::watch::Watch;
 use chi_observer::{
-    AgentBegun, AgentSeen, Arrivals, Arriving, Begun, KnownWords, ListedObserver, Observer,
+    AgentBegun, AgentSeen, Arrivals, Arriving, Begun, KnownWords, Observer, WordedObserver,
 };
 use chi_trace::NodeId;
 use std::alloc::Allocator;
@@ -140,9 +140,9 @@ fn are_same_words(one: KnownWords, other: KnownWords) -> bool
 }
 
 /// Whether two observers that know words are the same.
-#[tactic(auto, using(crate::proofs::EqualWords::listed_same))]
-fn is_same_listed(one: &ListedObserver, other: &ListedObserver) -> bool
-    ensures { IsTrue result ↔ (listed_watched one.now ≡ listed_watched other.now) }
+#[tactic(auto, using(crate::proofs::EqualWords::worded_same))]
+fn is_same_worded(one: &WordedObserver, other: &WordedObserver) -> bool
+    ensures { IsTrue result ↔ (words_watched one.now ≡ words_watched other.now) }
 {
     let observer = is_same_observer(&one.seen, &other.seen);
     observer & are_same_words(one.words, other.words)
@@ -202,26 +202,22 @@ impl BegunLine {
 
 impl<A: Allocator> Judge<A> {
     /// Whether both judge from the same.
-    #[tactic(auto, using(crate::proofs::EqualParts::start_same, crate::proofs::EqualParts::start_listed_same, crate::proofs::EqualParts::home_same))]
+    #[tactic(auto, using(crate::proofs::EqualParts::start_same, crate::proofs::EqualParts::home_same))]
     fn equals(&self, other: &Judge<A>) -> bool
         ensures { IsTrue result ↔ (judged self.now ≡ judged other.now) }
     {
         match self {
             Judge::Whole(own) => match other {
-                Judge::Whole(observer) => is_same_observer(own, observer),
-                Judge::Listed(_) | Judge::Begun(_) | Judge::Home(_) => false,
-            },
-            Judge::Listed(own) => match other {
-                Judge::Listed(observer) => is_same_listed(own, observer),
-                Judge::Whole(_) | Judge::Begun(_) | Judge::Home(_) => false,
+                Judge::Whole(observer) => is_same_worded(own, observer),
+                Judge::Begun(_) | Judge::Home(_) => false,
             },
             Judge::Begun(own) => match other {
                 Judge::Begun(line) => own.equals(line),
-                Judge::Whole(_) | Judge::Listed(_) | Judge::Home(_) => false,
+                Judge::Whole(_) | Judge::Home(_) => false,
             },
             Judge::Home(own) => match other {
                 Judge::Home(arrivals) => are_same_arrivals(own, arrivals),
-                Judge::Whole(_) | Judge::Listed(_) | Judge::Begun(_) => false,
+                Judge::Whole(_) | Judge::Begun(_) => false,
             },
         }
     }

@@ -1,18 +1,18 @@
-//! What judges the flits of a line of memory: an observer from the trace's beginning, one that knows words where all stores
-//! are listed, one that begins in the middle, or one of what the home receives.
+//! What judges the flits of a line of memory: an observer from the trace's beginning, which knows words, one that begins in the
+//! middle, or one of what the home receives.
 
 ghost use Rattle.std.specs.Prelude.{◌≡◌, ◌<◌, IfErr, IfOk, OnErr, true};
 ghost use Rattle.chi_observer.specs.Arriving.{holds_none};
 ghost use Rattle.chi_observer.specs.Begun.{begun};
 ghost use Rattle.chi_observer.specs.Lines.{watched};
-ghost use Rattle.chi_observer.specs.ListedLines.{listed_watched, words_of};
-ghost use Rattle.chi_observe.specs.Judges.{before_of, fault_of, holds, is_judge_fault, judged, keeps_store, line_judged, opened_from, opened_whole, told_in, told_words, verdict, verdict_of, wake, wanted_in, woken, worded};
+ghost use Rattle.chi_observer.specs.WordedLines.{words_watched, words_of};
+ghost use Rattle.chi_observe.specs.Judges.{before_of, fault_of, holds, is_judge_fault, judged, keeps_store, line_judged, opened_from, told_in, told_words, verdict, verdict_of, wake, wanted_in, woken, worded};
 
 use crate::marks::teller_of;
 use chi_flit::{Agent, Data};
 use chi_observer::{
-    AGENTS, Act, AgentSeen, Arrivals, Begun, Certainty, Due, Flit, Held, KnownWords,
-    ListedObserver, Observer, Reason, Stores, Told, Untaken, Wanted,
+    AGENTS, Act, Arrivals, Begun, Certainty, Flit, Held, KnownWords, NOBODY, Observer, Reason,
+    Stores, Untaken, Wanted, WordedObserver,
 };
 use std::alloc::{AllocError, Allocator};
 
@@ -51,9 +51,7 @@ pub(crate) struct BegunLine {
 #[derive(Drop)]
 pub(crate) enum Judge<A: Allocator> {
     /// From the trace's beginning.
-    Whole(Observer),
-    /// So too, where all stores are listed.
-    Listed(ListedObserver),
+    Whole(WordedObserver),
     /// From the middle.
     Begun(Box<BegunLine, A>),
     /// By what the home receives.
@@ -137,14 +135,6 @@ fn is_none(held: Held) -> bool
     matches!(held, Held::Nothing)
 }
 
-/// An agent of whom nothing was told.
-const NOBODY: AgentSeen = AgentSeen {
-    told: Told::I,
-    cancelled: false,
-    due: Due::Nothing,
-    snooped: None,
-};
-
 /// An observer that knows of these two agents alone what the given one does.
 fn pair_of(observer: &Observer, one: usize, other: usize) -> Observer {
     let mut agents = [NOBODY; 32];
@@ -179,10 +169,10 @@ fn copy_of(observer: &Observer) -> Observer
 }
 
 /// The same of one that knows words.
-fn listed_copy(observer: &ListedObserver) -> ListedObserver
-    ensures { listed_watched result ≡ listed_watched observer.now }
+fn worded_copy(observer: &WordedObserver) -> WordedObserver
+    ensures { words_watched result ≡ words_watched observer.now }
 {
-    ListedObserver {
+    WordedObserver {
         seen: copy_of(&observer.seen),
         words: observer.words,
     }
@@ -199,16 +189,6 @@ fn arrivals_copy(arrivals: &Arrivals) -> Arrivals
     }
 }
 
-/// That of a line which no flit has touched, from the trace's beginning.
-fn whole<A: Allocator>(stores: Stores) -> Judge<A>
-    ensures { judged result ≡ opened_whole stores }
-{
-    match stores {
-        Stores::Hidden => Judge::Whole(Observer::new(stores)),
-        Stores::Listed => Judge::Listed(ListedObserver::new()),
-    }
-}
-
 impl<A: Allocator> Judge<A> {
     /// That of a line which no flit has touched before the one with this number.
     pub(crate) fn new(
@@ -220,7 +200,7 @@ impl<A: Allocator> Judge<A> {
         ensures { IfOk result (λ judge. judged judge ≡ opened_from log stores number) }
     {
         match log {
-            Log::Whole => Ok(whole(stores)),
+            Log::Whole => Ok(Judge::Whole(WordedObserver::new(stores))),
             Log::Tail => {
                 let begun = Begun::new(stores);
                 let line = BegunLine {
@@ -243,7 +223,6 @@ impl<A: Allocator> Judge<A> {
     {
         match self {
             Judge::Whole(observer) => untaken(observer.take(flit)),
-            Judge::Listed(observer) => untaken(observer.take(flit)),
             Judge::Begun(line) => line.take(flit, before, number),
             Judge::Home(arrivals) => arrivals.take(flit),
         }
@@ -254,8 +233,7 @@ impl<A: Allocator> Judge<A> {
         ensures { IfOk result (λ judge. judged judge ≡ judged self.now) }
     {
         match self {
-            Judge::Whole(observer) => Ok(Judge::Whole(copy_of(observer))),
-            Judge::Listed(observer) => Ok(Judge::Listed(listed_copy(observer))),
+            Judge::Whole(observer) => Ok(Judge::Whole(worded_copy(observer))),
             Judge::Begun(line) => Ok(Judge::Begun(Box::new(alloc, line.copy())?)),
             Judge::Home(arrivals) => { Ok(Judge::Home(Box::new(alloc, arrivals_copy(arrivals))?)) }
         }
@@ -264,8 +242,7 @@ impl<A: Allocator> Judge<A> {
     /// Whether it takes the flit, or leaves open what that tells.
     pub(crate) fn takes(&self, flit: Flit, before: &Before) -> bool {
         match self {
-            Judge::Whole(observer) => copy_of(observer).take(flit).is_ok(),
-            Judge::Listed(observer) => listed_copy(observer).take(flit).is_ok(),
+            Judge::Whole(observer) => worded_copy(observer).take(flit).is_ok(),
             Judge::Begun(line) => line.woken(before).take(flit).is_ok(),
             Judge::Home(arrivals) => {
                 let taken = arrivals_copy(arrivals).take(flit);
@@ -279,7 +256,7 @@ impl<A: Allocator> Judge<A> {
         let agent = usize::from(teller_of(flit).0);
         let mut pair = pair_of(self.observer(), agent, other);
         let taken = match self {
-            Judge::Whole(_) | Judge::Listed(_) | Judge::Home(_) => pair.take(flit),
+            Judge::Whole(_) | Judge::Home(_) => pair.take(flit),
             Judge::Begun(line) => {
                 let agents = line.begun.agents;
                 let mut begun = Begun {
@@ -295,7 +272,7 @@ impl<A: Allocator> Judge<A> {
     /// How much is known of an agent's copy.
     pub(crate) fn certainty(&self, agent: usize) -> Certainty {
         match self {
-            Judge::Whole(_) | Judge::Listed(_) | Judge::Home(_) => Certainty::Told,
+            Judge::Whole(_) | Judge::Home(_) => Certainty::Told,
             Judge::Begun(line) => match line.begun.agents.get(agent) {
                 Some(mark) => mark.copy,
                 None => Certainty::Unknown,
@@ -313,8 +290,7 @@ impl<A: Allocator> Judge<A> {
         ensures { result ≡ wanted_in (judged self.now) flit }
     {
         match self {
-            Judge::Whole(observer) => observer.wanted(flit),
-            Judge::Listed(observer) => observer.seen.wanted(flit),
+            Judge::Whole(observer) => observer.seen.wanted(flit),
             Judge::Begun(_) => Wanted::Nothing,
             Judge::Home(_) => Wanted::Nothing,
         }
@@ -326,9 +302,6 @@ impl<A: Allocator> Judge<A> {
     {
         match self {
             Judge::Whole(observer) => {
-                observer.home = Some(words);
-            }
-            Judge::Listed(observer) => {
                 observer.seen.home = Some(words);
             }
             Judge::Begun(_) => {}
@@ -341,33 +314,30 @@ impl<A: Allocator> Judge<A> {
         ensures { watched result.now ≡ told_in (judged self.now) }
     {
         match self {
-            Judge::Whole(observer) => observer,
-            Judge::Listed(observer) => &observer.seen,
+            Judge::Whole(observer) => &observer.seen,
             Judge::Begun(line) => &line.begun.observer,
             Judge::Home(arrivals) => &arrivals.seen,
         }
     }
 
-    /// The words that those of data of a copy have to be besides: where all stores are listed, those that loads and stores
-    /// told.
+    /// The words that those of data of a copy have to be besides: those that loads and stores told.
     pub(crate) fn told_words(&self, flit: Flit) -> KnownWords
         ensures { words_of result ≡ told_words (judged self.now) flit }
     {
         match (self, flit) {
-            (Judge::Listed(observer), Flit::Up(sent)) => match sent.act {
-                Act::NonCopyBackWrData => KnownWords::none(),
-                _ => observer.known_words(),
-            },
+            (Judge::Whole(observer), Flit::Up(sent)) => observer.copy_words(sent),
             _ => KnownWords::none(),
         }
     }
 
-    /// Whether the flit is a store of which words are kept.
+    /// Whether the flit is a store of which words are kept: where all are listed.
     pub(crate) fn keeps_store(&self, flit: Flit) -> bool
         ensures { result ≡ keeps_store (judged self.now) flit }
     {
         match (self, flit) {
-            (Judge::Listed(_), Flit::Up(sent)) => matches!(sent.act, Act::Store(_)),
+            (Judge::Whole(observer), Flit::Up(sent)) => {
+                matches!(observer.seen.stores, Stores::Listed) && matches!(sent.act, Act::Store(_))
+            }
             _ => false,
         }
     }
@@ -375,7 +345,7 @@ impl<A: Allocator> Judge<A> {
     /// The words that are known which those of the flit are to be.
     pub(crate) fn known_words(&self, flit: Flit) -> KnownWords {
         match (self, flit) {
-            (Judge::Listed(observer), Flit::Up(_)) => observer.known_words(),
+            (Judge::Whole(observer), Flit::Up(_)) => observer.known_words(),
             _ => KnownWords::all(&self.observer().home),
         }
     }
@@ -383,7 +353,7 @@ impl<A: Allocator> Judge<A> {
     /// Whether loads and stores told these words, and no data the whole value since.
     pub(crate) fn is_of_accesses(&self, flit: Flit) -> bool {
         match (self, flit) {
-            (Judge::Listed(observer), Flit::Up(_)) => !observer.seen.current,
+            (Judge::Whole(observer), Flit::Up(_)) => !observer.seen.current,
             _ => false,
         }
     }
@@ -394,7 +364,6 @@ impl<A: Allocator> Judge<A> {
     {
         match self {
             Judge::Whole(_) => false,
-            Judge::Listed(_) => false,
             Judge::Begun(_) => false,
             Judge::Home(arrivals) => match arrivals.agents.get(usize::from(agent.0)) {
                 Some(own) => !is_none(own.held),

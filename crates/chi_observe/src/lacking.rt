@@ -1,7 +1,7 @@
 //! What data of a line lack that come in beats.
 
 ghost use Rattle.std.specs.Prelude.{◌≡◌};
-ghost use Rattle.chi_observer.specs.ListedLines.{words_of};
+ghost use Rattle.chi_observer.specs.WordedLines.{words_of};
 ghost use Rattle.chi_observe.specs.Lacking.{is_known_lacking, lacking_shown, lacking_with, lacking_without, may_show, unknown_in};
 
 use crate::words::{but_known, lacks_some, left_of, unknown_behind};

@@ -13,10 +13,10 @@ pub fn a_watch_stays_in_its_room()
     ensures stays { StaysWithin }
 {}
 
-/// The law that a line which is judged from the trace's beginning, where stores may be hidden, takes data in two beats that it
-/// is told of at the first one, and flits between them, exactly where it takes the data with all words in the place of the
-/// first beat, and those flits behind; and that what is told then is the same. Between the beats stand any whole flits where
-/// the words are the home's or tell nothing; and where they may be any and are told, such as have no words and are no loads.
+/// The law that a line which is judged from the trace's beginning takes data in two beats that it is told of at the first one,
+/// and flits between them, exactly where it takes the data with all words in the place of the first beat, and those flits
+/// behind; and that what is told then is the same. Between the beats stand any whole flits where the words are the home's or
+/// tell nothing; and where they may be any and are told, and stores may be hidden, such as have no words and are no loads.
 /// Source: `docs/OBSERVER.md`, "Data in beats".
 pub fn beats_are_one_flit()
     ensures { BeatsAreOneFlit }

@@ -3,7 +3,7 @@
 ghost use Rattle.std.specs.Prelude.{◌≡◌, IfOk, None, OnOk, nat_eq};
 ghost use Rattle.std.specs.Map.{lookup};
 ghost use Rattle.chi_observe.specs.declared.lines.LineStop.TheVariants as stops;
-ghost use Rattle.chi_observer.specs.ListedLines.{words_of};
+ghost use Rattle.chi_observer.specs.WordedLines.{words_of};
 ghost use Rattle.chi_observe.specs.Judges.{before_of};
 ghost use Rattle.chi_observe.specs.Lacking.{unknown_in};
 ghost use Rattle.chi_observe.specs.Lines.{IsBegunTold, IsBetweenTold, IsEarlyTold, IsEndTold, IsFlitTold, IsHeldTold, IsHoldTold, IsLastTold, IsLineTold, IsShownTold, IsTold, early_of, heard, held_next, home_of, is_apart, is_aside, is_given, is_put_aside, is_showing, is_wanted_free, is_wanted_known, lacks_of, line_state, lines_in, marked_next, opened_line, presented, put_aside, shown_more, shown_words, shows_home, wanted_of, with_shown, word_in};

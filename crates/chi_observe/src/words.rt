@@ -2,7 +2,7 @@
 
 ghost use Rattle.std.specs.Prelude.{◌≡◌};
 ghost use Rattle.chi_observe.specs.Words.{agrees, agrees_word, but_known, but_one, lacking, lacks_some, left_of, unknown_behind, with_known, word_with, words_with};
-ghost use Rattle.chi_observer.specs.ListedLines.{words_of};
+ghost use Rattle.chi_observer.specs.WordedLines.{words_of};
 
 use chi_flit::Data;
 use chi_observer::KnownWords;

@@ -10,7 +10,7 @@ use Rattle.chi_observer.specs.Rules.{has_word, reads_any, lets_go, loses, looks,
 use Rattle.chi_observer.specs.Tables.{Known, most, may, reach, fresh, told_after, fits_told, renews}
 use Rattle.chi_observer.specs.Worlds.{World, Clean, Sends}
 use Rattle.chi_observer.specs.Observed.{Observed, Sound, Unstored, Meaning, fits, takes, differs, next}
-use Rattle.chi_observer.specs.Laws.{MeaningIsCoherent, CacheFlitsAreTaken, CacheFlitsLead}
+use Rattle.chi_observer.specs.Laws.{MeaningIsCoherent, CacheFlitsAreTaken, CacheFlitsLead, CacheFlitsTellTheValue}
 use Rattle.chi_observer.proofs.Finite.{no, left, right, both, implies, follow}
 use Rattle.chi_observer.proofs.Facts.{surely_dirty, unstored_clean, sent_data, sent_whole, taken_well, forward, below, rival, or_here, or_there, and_false, contrary, one_of, beside_unique, any_silent, data_looks, read_calm, read_told, load_holds_data, beside_writing, turned, flip, implied}
 use Rattle.chi_observer.proofs.Words.{known_fits, shown_fits, load_fits, home_is, current_is}
@@ -80,14 +80,14 @@ module _ (o : Observed) (f : CacheFlit) (w w' : World) (sound : Sound o) (low : 
   holds = sent_data f.act x d s s' send.act
 
   -- the words are the value
-  shown_last : has_data f.act ≡ true → f.shown ≡ w.last
+  pub shown_last : has_data f.act ≡ true → f.shown ≡ w.last
   shown_last h = send.shown h ∙ m.words n low (holds h)
 
-  unstored_by : holds_data s.copy ≡ true → fresh mode d t s ≡ false → Unstored o w
+  pub unstored_by : holds_data s.copy ≡ true → fresh mode d t s ≡ false → Unstored o w
   unstored_by h e = split (λ k. k < 32 → fresh o.public.stores (o.public.due k) (o.told k) (w.state k) ≡ false) n (λ _. e)
       (λ k c lk. rival mode d (o.public.due k) t (o.told k) s (w.state k) (m.told n low) (or_here _ _ h) (sound.pairs n k low lk (λ z. c (sym z))))
 
-  unstored : has_data f.act ≡ true → fresh mode d t s ≡ false → Unstored o w
+  pub unstored : has_data f.act ≡ true → fresh mode d t s ≡ false → Unstored o w
   unstored h e = unstored_by (holds h) e
 
   known_is : has_data f.act ≡ true → fresh mode d t s ≡ false → o.current ≡ true → (u : List ℕ) → o.home ≡ Some u → u ≡ f.shown
@@ -145,14 +145,14 @@ module _ (o : Observed) (f : CacheFlit) (w w' : World) (sound : Sound o) (low : 
   pub settled_sent : looks f.act ≡ false → may ((next o f).told n).told s'.copy ≡ true
   settled_sent e = subst (λ (x : Known). may x.told s'.copy ≡ true) (sym (here n t' o.told)) (follow (not (looks f.act)) _ (right (reach mode d' t' s') _ told_well) (flip _ e))
 
-  still : open_still ≡ false → r ≡ false → fresh mode d t s ≡ false
+  pub still : open_still ≡ false → r ≡ false → fresh mode d t s ≡ false
   still q e = contrary (fresh mode d t s) open_still (follow (not r) _ (left of_stores _ facts2) (flip r e)) q
 
   had_data : stores f.act ≡ false → holds_data s'.copy ≡ true → holds_data s.copy ≡ true
   had_data q v = one_of (holds_data s.copy) (stores f.act) (follow (holds_data s'.copy) _ (left of_data _ facts3) v) q
 
   -- where the value is any there may have been a store
-  any_well : loose ≡ true → (r && is_unique s.copy) ≡ true
+  pub any_well : loose ≡ true → (r && is_unique s.copy) ≡ true
   any_well = follow loose _ (left of_any _ facts4)
 
   -- where it is lost no data are left
@@ -166,14 +166,14 @@ module _ (o : Observed) (f : CacheFlit) (w w' : World) (sound : Sound o) (low : 
   any_unknown : loose ≡ true → (next o f).current ≡ false
   any_unknown e = ap (λ b. if b then true else (if r then false else o.current)) (any_silent mode f.act x d s.copy e) ∙ ap (λ b. if b then false else o.current) (left _ _ (any_well e))
 
-  not_any : lose ≡ false → stores f.act ≡ false → loose ≡ false
+  pub not_any : lose ≡ false → stores f.act ≡ false → loose ≡ false
   not_any l q = (λ i. l i || q i)
 
-  data_closed : has_data f.act ≡ true → open_still ≡ false
+  pub data_closed : has_data f.act ≡ true → open_still ≡ false
   data_closed h = ap (λ b. b && fresh mode d' t' s') (data_looks f.act h)
 
   -- a load of a copy that wasn't stored to reads a word of the home's
-  read_word : (reads_any mode d s.copy || has_word f.act (w.words n)) ≡ true → reads_any mode d (most t) ≡ false → has_word f.act (w.words n) ≡ true
+  pub read_word : (reads_any mode d s.copy || has_word f.act (w.words n)) ≡ true → reads_any mode d (most t) ≡ false → has_word f.act (w.words n) ≡ true
   read_word q u = by (reads_any mode d s.copy) (has_word f.act (w.words n)) q (λ h. sym u ∙ read_told mode d t s (m.told n low) h)
     where
       by : (a b : Bool) → (a || b) ≡ true → (a ≡ true → false ≡ true) → b ≡ true
@@ -194,19 +194,19 @@ module _ (o : Observed) (f : CacheFlit) (w w' : World) (sound : Sound o) (low : 
   pub Calm : Type 0
   Calm = (k : ℕ) → k ≢ n → k < 32 → fresh o.public.stores (o.public.due k) (o.told k) (w.state k) ≡ false
 
-  before : r ≡ false → open_still ≡ false → Calm → Unstored o w
+  pub before : r ≡ false → open_still ≡ false → Calm → Unstored o w
   unfolding Calm
   before e q u = split (λ k. k < 32 → fresh o.public.stores (o.public.due k) (o.told k) (w.state k) ≡ false) n (λ _. still q e) u
 
-  closed_of : Unstored (next o f) w' → open_still ≡ false
+  pub closed_of : Unstored (next o f) w' → open_still ≡ false
   closed_of u = and_false (looks f.act) (fresh mode d' t' s') (at_it (λ k x y. k < 32 → fresh mode x y (w'.state k) ≡ false) n d' t' o.public.due o.told u low)
 
-  calm_of : Unstored (next o f) w' → Calm
+  pub calm_of : Unstored (next o f) w' → Calm
   unfolding Calm
   calm_of u k h lk = subst (λ x. fresh o.public.stores (o.public.due k) (o.told k) x ≡ false) (send.others.state k lk h)
       (at_else (λ k x y. k < 32 → fresh mode x y (w'.state k) ≡ false) n d' t' o.public.due o.told u k h lk)
 
-  last_by : loose ≡ false → writes f.act ≡ false → w'.last ≡ w.last
+  pub last_by : loose ≡ false → writes f.act ≡ false → w'.last ≡ w.last
   last_by l e = send.last l ∙ ap (λ b. if b then f.shown else w.last) e
 
   -- what is shown is known
@@ -268,6 +268,9 @@ module _ (o : Observed) (f : CacheFlit) (w w' : World) (sound : Sound o) (low : 
 
 pub taken : CacheFlitsAreTaken
 taken o f w w' sound low m send word = taken_here o f w w' sound low m send word
+
+pub tells_value : CacheFlitsTellTheValue
+tells_value o f w w' sound low m send h = told_here o f w w' sound low m send h
 
 pub leads : CacheFlitsLead
 leads o f w w' sound low m send = led_here o f w w' sound low m send

@@ -92,12 +92,15 @@ module _ (o : Observed) (w w' : World) (sound : Sound o) (m : Meaning o w) (n : 
   words_else : w'.last ≡ w.last → (k : ℕ) → k ≢ n → k < 32 → holds_data (w'.state k).copy ≡ true → w'.words k ≡ w'.last
   words_else l k h lk v = others.words k lk h ∙ m.words k lk (subst (λ (x : Held). holds_data x.copy ≡ true) (others.state k lk h) v) ∙ sym l
 
+  pub calm_before : fresh o.public.stores e t (w.state n) ≡ false → Unstored o w' → Unstored o w
+  calm_before f u = split (λ k. k < 32 → fresh o.public.stores (o.public.due k) (o.told k) (w.state k) ≡ false) n (λ _. f)
+      (λ k h lk. subst (λ x. fresh o.public.stores (o.public.due k) (o.told k) x ≡ false) (others.state k lk h) (u k lk))
+
   current_by : w'.last ≡ w.last → fresh o.public.stores e t (w.state n) ≡ false → o.current ≡ true → Unstored o w' → w'.last ≡ w'.home
-  current_by l f c u = l ∙ m.current c (split (λ k. k < 32 → fresh o.public.stores (o.public.due k) (o.told k) (w.state k) ≡ false) n (λ _. f)
-      (λ k h lk. subst (λ x. fresh o.public.stores (o.public.due k) (o.told k) x ≡ false) (others.state k lk h) (u k lk))) ∙ sym hm
+  current_by l f c u = l ∙ m.current c (calm_before f u) ∙ sym hm
 
   module _ (step : StoresUnseen o.public n w w') where
-    stored : (reach o.public.stores e t (of_form UniqueDirty (w.state n)) && fresh o.public.stores e t (of_form UniqueDirty (w.state n))) ≡ true
+    pub stored : (reach o.public.stores e t (of_form UniqueDirty (w.state n)) && fresh o.public.stores e t (of_form UniqueDirty (w.state n))) ≡ true
     stored = store_well o.public.stores e t (w.state n) (both _ _ step.hidden (both _ _ step.free (both _ _ (m.told n low) step.unique)))
 
     lone : (k : ℕ) → k ≢ n → k < 32 → holds_data (w'.state k).copy ≡ false
@@ -114,7 +117,7 @@ module _ (o : Observed) (w w' : World) (sound : Sound o) (m : Meaning o w) (n : 
     }
 
   module _ (step : Drops o.public n w w') where
-    dropped : (reach o.public.stores e t (of_form Invalid (w.state n)) && not (fresh o.public.stores e t (w.state n))) ≡ true
+    pub dropped : (reach o.public.stores e t (of_form Invalid (w.state n)) && not (fresh o.public.stores e t (w.state n))) ≡ true
     dropped = drop_well o.public.stores e t (w.state n) (both _ _ step.free (both _ _ (m.told n low) step.clean))
 
     pub by_drop : Meaning o w'
@@ -127,7 +130,7 @@ module _ (o : Observed) (w w' : World) (sound : Sound o) (m : Meaning o w) (n : 
     }
 
   module _ (step : Cancels o.public n w w') where
-    cancelled : (reach o.public.stores e t (gone (w.state n)) && not (fresh o.public.stores e t (w.state n))) ≡ true
+    pub cancelled : (reach o.public.stores e t (gone (w.state n)) && not (fresh o.public.stores e t (w.state n))) ≡ true
     cancelled = cancel_well o.public.stores e t (w.state n) (both _ _ step.retried (both _ _ (m.told n low) (flip _ step.waits)))
 
     pub by_cancel : Meaning o w'

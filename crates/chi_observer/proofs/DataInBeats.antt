@@ -8,6 +8,8 @@ use Rattle.chi_observer.specs.declared.flits.Act.TheVariants.{Request, Resend, S
 use Rattle.chi_observer.specs.declared.flits.Answer.TheVariants.{SnpRespI, SnpRespSC, SnpRespUC}
 use Rattle.chi_observer.specs.declared.flits.CacheFlit.{CacheFlit}
 use Rattle.chi_observer.specs.declared.flits.HomeFlit.{HomeFlit}
+use Rattle.chi_observer.specs.declared.flits.Stores.{Stores}
+use Rattle.chi_observer.specs.declared.flits.Stores.TheVariants.{Hidden, Listed}
 use Rattle.chi_observer.specs.declared.flits.Due.{Due}
 use Rattle.chi_observer.specs.declared.flits.Due.TheVariants.{Resending}
 use Rattle.chi_observer.specs.declared.flits.Flit.{Flit}
@@ -18,7 +20,7 @@ use Rattle.chi_observer.specs.declared.wanted.Wanted.{Wanted}
 use Rattle.chi_observer.specs.declared.wanted.Wanted.TheVariants.{Nothing, Known, Any, Free}
 use Rattle.chi_observer.specs.Copies.{is_unique, same}
 use Rattle.chi_observer.specs.Copies.Copy.{UniqueDirty}
-use Rattle.chi_observer.specs.Rules.{allows, gives_data, has_data, lets_go, looks, makes, reads_any, settles, tells_words}
+use Rattle.chi_observer.specs.Rules.{allows, are_hidden, gives_data, has_data, lets_go, looks, makes, reads_any, settles, stores, tells_words, writes}
 use Rattle.chi_observer.specs.Tables.{Known as Told, answer_tells_dirty, fills_told, fits_told, is_cancelled, most, renews, shows_told, told_behind, told_granted}
 use Rattle.chi_observer.specs.Judged.{is_judged}
 use Rattle.chi_observer.specs.Moments.{has_moment, shown_after, waits_after}
@@ -26,7 +28,9 @@ use Rattle.chi_observer.specs.Observed.{Observed, current_after, differs, fits, 
 use Rattle.chi_observer.specs.Worlds.{home_may, public_after, public_granted, put}
 use Rattle.chi_observer.specs.Lines.{Watched, is_taken, watch}
 use Rattle.chi_observer.specs.Counted.{counted, takes_counted, watch_counted}
-use Rattle.chi_observer.specs.Wanted.{AnyWordsAreTaken, FreeWordsAreTaken, KnownWordsAreTaken, WordlessFlitsAreApart, cancelled_if, flit_with, flit_words, is_wordless, tells_cancelled, wanted, wanted_if, with_home}
+use Rattle.chi_observer.specs.Worded.{Words, agree, all_words, copy_words, fits_load, fits_words, is_open, is_placed, known_words, may_be_empty, may_read_any, no_words, renewed, words_by, words_granted}
+use Rattle.chi_observer.specs.WordedLines.{WatchedWords, fits_worded, words_behind, worded_in}
+use Rattle.chi_observer.specs.Wanted.{AnyWordsAreTaken, FreeWordsAreTaken, KnownWordsAreTaken, WordlessFlitsAreApart, cancelled_if, flit_with, flit_words, homed, is_wordless, tells_cancelled, wanted, wanted_if, with_home}
 use Rattle.chi_observer.proofs.Finite.{no, left, right}
 
 -- flits without words
@@ -278,7 +282,7 @@ plain_wordless : (s : Watched) (e : Flit) → is_wordless e ≡ true → counted
 plain_wordless s (Up f) h = plain_act s f.agent f.act f.shown (no_look (tells_words f.act) (looks f.act) h)
 plain_wordless s (Down g) h = refl
 
-either_way : (b : Bool) → (if b then Nothing else Nothing) ≡ Nothing
+pub either_way : (b : Bool) → (if b then Nothing else Nothing) ≡ Nothing
 either_way true = refl
 either_way false = refl
 
@@ -291,7 +295,7 @@ plain_wanted : (s w : Watched) (e : Flit) → wanted w e ≢ Nothing → counted
 plain_wanted s w (Up f) some = wanted_act s w f.agent f.act f.shown some
 plain_wanted s w (Down g) some = refl
 
-wanted_as : (w : Watched) (e : Flit) (words : List ℕ) → wanted w (flit_with e words) ≡ wanted w e
+pub wanted_as : (w : Watched) (e : Flit) (words : List ℕ) → wanted w (flit_with e words) ≡ wanted w e
 wanted_as w (Up f) words = refl
 wanted_as w (Down g) words = refl
 
@@ -301,8 +305,8 @@ plain_with s w e words some = plain_wanted s w (flit_with e words) (λ none. som
 is_some_wanted : (w : Watched) (e : Flit) (x : Wanted) → x ≢ Nothing → wanted w e ≡ x → wanted w e ≢ Nothing
 is_some_wanted w e x some is none = some (sym is ∙ none)
 
-pub apart : WordlessFlitsAreApart
-apart s words e h =
+apart_counted : (s : Watched) (words : List ℕ) (e : Flit) → is_wordless e ≡ true → (takes_counted (with_home words s) e ≡ takes_counted s e) × (watch_counted (with_home words s) e ≡ with_home words (watch_counted s e))
+apart_counted s words e h =
     let here = plain_wordless s e h in
     let there = plain_wordless (with_home words s) e h in
     let same = apart_itself s words e h in (
@@ -310,8 +314,8 @@ apart s words e h =
       ap (watch (with_home words s)) there ∙ (same.1 ∙ sym (ap (λ (x : Flit). with_home words (watch s x)) here)),
     )
 
-pub any_taken : AnyWordsAreTaken
-any_taken s words e h =
+any_counted : (s : Watched) (words : List ℕ) (e : Flit) → wanted s e ≡ Any → (takes_counted s (flit_with e words) ≡ takes_counted s e) × (watch_counted s (flit_with e words) ≡ with_home words (watch_counted s e))
+any_counted s words e h =
     let some = is_some_wanted s e Any (λ none. absurd (search (rules, arith))) h in
     let here = plain_wanted s s e some in
     let there = plain_with s s e words some in
@@ -320,8 +324,8 @@ any_taken s words e h =
       ap (watch s) there ∙ (same.1 ∙ sym (ap (λ (x : Flit). with_home words (watch s x)) here)),
     )
 
-pub free_taken : FreeWordsAreTaken
-free_taken s words e h =
+free_counted : (s : Watched) (words : List ℕ) (e : Flit) → wanted s e ≡ Free → (takes_counted s (flit_with e words) ≡ takes_counted s e) × (watch_counted s (flit_with e words) ≡ watch_counted s e)
+free_counted s words e h =
     let some = is_some_wanted s e Free (λ none. absurd (search (rules, arith))) h in
     let here = plain_wanted s s e some in
     let there = plain_with s s e words some in
@@ -330,6 +334,105 @@ free_taken s words e h =
       ap (watch s) there ∙ (same.1 ∙ sym (ap (watch s) here)),
     )
 
-pub known_taken : KnownWordsAreTaken
-known_taken s e h t =
+known_counted : (s : Watched) (e : Flit) → wanted s e ≡ Known → takes_counted s e ≡ true → fits s.seen.home (flit_words e) ≡ true
+known_counted s e h t =
     known_taken_itself s e h (ap (is_taken s) (sym (plain_wanted s s e (is_some_wanted s e Known (λ none. absurd (search (rules, arith))) h))) ∙ t)
+
+-- WORDS THAT LOADS AND STORES TOLD
+-- a store is none of those of which words are kept
+kept_words : (z : Stores) (a : Act) (fresh any empty : Bool) (known other words : Words) → (not (are_hidden z) && stores a) ≡ false → words_by z a fresh any empty known words ≡ words_by z a fresh any empty other words
+kept_words Hidden (Store word) fresh any empty known other words h = refl
+kept_words Listed (Store word) fresh any empty known other words h = no (sym h)
+kept_words z act fresh any empty known other words h = refl
+
+pub apart : WordlessFlitsAreApart
+apart l words (Up f) h none =
+    let s = l.line in
+    let same = apart_counted s words (Up f) h in
+    let here = plain_wordless s (Up f) h in
+    let there = plain_wordless (with_home words s) (Up f) h in
+    let o = worded_in l in
+    let home = worded_in (homed words l) in (
+      (λ i. same.0 i && fits_worded home (there i)) ∙ sym (ap (λ (x : Flit). takes_counted s (Up f) && fits_worded o x) here),
+      (λ i. record { line = same.1 i; words = words_behind home (there i) })
+          ∙ (ap (λ (k : Words). record { line = with_home words (watch_counted s (Up f)); words = k })
+          (kept_words s.seen.public.stores f.act (is_open o f) (may_read_any o f) (may_be_empty (s.seen.told f.agent.0).told) (known_words home) (known_words o) l.words none)
+          ∙ sym (ap (λ (x : Flit). record { line = with_home words (watch_counted s (Up f)); words = words_behind o x }) here)),
+    )
+apart l words (Down g) h none = let same = apart_counted l.line words (Down g) h in (
+  ap (λ (b : Bool). b && true) same.0,
+  ap (λ (s : Watched). record { line = s; words = words_granted g (worded_in l) }) same.1,
+)
+
+and_true : (a : Bool) → (a && true) ≡ a
+and_true true = refl
+and_true false = refl
+
+or_true : (a : Bool) → (a || true) ≡ true
+or_true true = refl
+or_true false = refl
+
+-- the words fit where they are what is wanted
+fit_is : (shows whole fresh current any placed fit : Bool) (home : Option (List ℕ)) (k : Words) (v : List ℕ) → placed ≡ true → fit ≡ true → (shows || whole) ≡ true → (whole ≡ true → shows ≡ false)
+    → (shows && (not fresh && (current && is_some home))) ≡ false
+    → (placed && (current || ((not shows || (fresh || agree k v)) && (any || fit)))) ≡ agree (if whole || fresh then no_words else (if current then all_words home else k)) v
+fit_is shows whole fresh current any false fit home k v p f t w e = no p
+fit_is shows whole fresh current any true false home k v p f t w e = no f
+fit_is false false fresh current any true true home k v p f t w e = no t
+fit_is true true fresh current any true true home k v p f t w e = no (sym (w refl))
+fit_is false true fresh true any true true home k v p f t w e = refl
+fit_is false true fresh false any true true home k v p f t w e = or_true any
+fit_is true false true true any true true home k v p f t w e = refl
+fit_is true false true false any true true home k v p f t w e = or_true any
+fit_is true false false true any true true None k v p f t w e = refl
+fit_is true false false true any true true (Some u) k v p f t w e = no (sym e)
+fit_is true false false false any true true home k v p f t w e = ap (λ (b : Bool). agree k v && b) (or_true any) ∙ and_true (agree k v)
+
+told_placed : (a : Act) → tells_words a ≡ true → is_placed a ≡ true
+told_placed (Load word) h = no h
+told_placed (Store word) h = no h
+told_placed other h = refl
+
+told_fits : (a : Act) (k : Words) → tells_words a ≡ true → fits_load a k ≡ true
+told_fits (Load word) k h = no h
+told_fits other k h = refl
+
+whole_bare : (a : Act) → writes a ≡ true → has_data a ≡ false
+whole_bare NonCopyBackWrData h = refl
+whole_bare other h = no h
+
+any_worded : (l : WatchedWords) (words : List ℕ) (f : CacheFlit) → wanted l.line (Up f) ≡ Any → fits_words (worded_in l) (record f { shown = words }) ≡ agree (copy_words (worded_in l) f) words
+any_worded l words f h =
+    let o = l.line.seen in
+    let n = f.agent.0 in
+    let free = wanted_any (not (tells_words f.act) || tells_cancelled o f) _ (in_reach (nat_lt n 32) _ Any h (λ e. absurd (search (rules, arith)))).1 in
+    let tells : tells_words f.act ≡ true = turned (tells_words f.act) (none_of (not (tells_words f.act)) (tells_cancelled o f) free.0).0 in
+    fit_is (has_data f.act) (writes f.act) (renewed (worded_in l) f) o.current (may_read_any (worded_in l) f) (is_placed f.act) (fits_load f.act l.words) o.home l.words words
+    (told_placed f.act tells) (told_fits f.act l.words tells) tells (whole_bare f.act) free.1
+
+pub any_taken : AnyWordsAreTaken
+any_taken l words (Up f) h =
+    let s = l.line in
+    let some = is_some_wanted s (Up f) Any (λ none. absurd (search (rules, arith))) h in
+    let same = any_counted s words (Up f) h in
+    let here = plain_wanted s s (Up f) some in
+    let there = plain_with s s (Up f) words some in
+    let o = worded_in l in (
+      (λ i. same.0 i && fits_worded o (there i)) ∙ ap (λ (b : Bool). takes_counted s (Up f) && b) (any_worded l words f h),
+      (λ i. record { line = same.1 i; words = words_behind o (there i) })
+          ∙ sym (ap (λ (x : Flit). record { line = with_home words (watch_counted s (Up f)); words = words_behind o x }) here),
+    )
+any_taken l words (Down g) h = let same = any_counted l.line words (Down g) h in (
+  ap (λ (b : Bool). b && true) same.0,
+  ap (λ (s : Watched). record { line = s; words = words_granted g (worded_in l) }) same.1,
+)
+
+pub free_taken : FreeWordsAreTaken
+free_taken l words (Up f) h = absurd (not_free (not (tells_words f.act) || tells_cancelled l.line.seen f) _ (in_reach (nat_lt f.agent.0 32) _ Free h (λ e. absurd (search (rules, arith)))).1)
+free_taken l words (Down g) h = let same = free_counted l.line words (Down g) h in (
+  ap (λ (b : Bool). b && true) same.0,
+  ap (λ (s : Watched). record { line = s; words = words_granted g (worded_in l) }) same.1,
+)
+
+pub known_taken : KnownWordsAreTaken
+known_taken l e h t = known_counted l.line e h (left (takes_counted l.line e) _ t)

@@ -73,7 +73,7 @@ module _ (o : Observed) (g : HomeFlit) (w w' : World) (sound : Sound o) (low : g
   else_words k h lk v false true e hz = no (sym (none_else hz k h lk) ∙ v)
   else_words k h lk v false false e hz = m.words k lk v ∙ sym (last_same e hz)
 
-  before : Unstored (next_home o g) w' → Unstored o w
+  pub before : Unstored (next_home o g) w' → Unstored o w
   before u = split (λ k. k < 32 → fresh o.public.stores (o.public.due k) (o.told k) (w.state k) ≡ false) n
       (λ _. unfresh o g low may s (m.told n low) (subst (λ x. fresh mode d' t' x ≡ false) gives.state (at_it (λ k a b. k < 32 → fresh mode a b (w'.state k) ≡ false) n d' t' o.public.due o.told u low)))
       (λ k h lk. subst (λ x. fresh o.public.stores (o.public.due k) (o.told k) x ≡ false) (gives.others.state k lk h)

@@ -24,14 +24,15 @@ mod Sent
 mod Legal
 mod ListedWords
 mod ListedKnown
-mod ListedSent
-mod ListedGiven
+mod WordedSent
+mod WordedGiven
+mod WordedCalm
 mod ListedBefore
 mod ListedComes
 mod ListedHome
 mod ListedRuns
 mod Lines
-mod ListedLines
+mod WordedLines
 mod Middle
 mod Received
 mod Alike
@@ -53,4 +54,4 @@ mod LateComes
 mod LateGrants
 mod LateRuns
 mod LateCopies
-mod DataInBeats
+pub mod DataInBeats

@@ -15,7 +15,7 @@ use Rattle.chi_observer.specs.Rules.{lets_go, loses, looks, stores, may_store, l
 use Rattle.chi_observer.specs.Tables.{Known, reach, fresh, fits_told, may, told_behind, told_after, renews}
 use Rattle.chi_observer.specs.Worlds.{World, Sends, put}
 use Rattle.chi_observer.specs.Observed.{Observed, Sound, Meaning}
-use Rattle.chi_observer.specs.Listed.{may_be_empty}
+use Rattle.chi_observer.specs.Worded.{may_be_empty}
 use Rattle.chi_observer.proofs.Finite.{no, left, right, both, implies, follow}
 use Rattle.chi_observer.proofs.Spots.{if_some, DueCopies, each_due_copy}
 use Rattle.chi_observer.proofs.Facts.{one_of, other_of, or_there, of_form, same_is, sent_whole, taken_well, forward, below, beside_unique, beside_writing}

@@ -8,14 +8,14 @@ use Rattle.chi_observer.specs.declared.flits.CacheFlit.{CacheFlit}
 use Rattle.chi_observer.specs.declared.flits.Due.{Due}
 use Rattle.chi_observer.specs.declared.flits.Stores.{Stores}
 use Rattle.chi_observer.specs.declared.flits.Stores.TheVariants.{Listed as AllListed}
-use Rattle.chi_observer.specs.Copies.{Held, holds_data}
+use Rattle.chi_observer.specs.Copies.{Held, holds_data, is_unique}
 use Rattle.chi_observer.specs.Copies.Copy.{UniqueEmpty}
-use Rattle.chi_observer.specs.Rules.{allows, has_data, has_word, lets_go, lets_store, looks, reads_any, stores, tells_words, word_at, writes}
+use Rattle.chi_observer.specs.Rules.{allows, are_hidden, has_data, has_word, hides_stores, lets_go, lets_store, looks, reads_any, stores, tells_words, word_at, writes}
 use Rattle.chi_observer.specs.Tables.{Known, fits_told, most, renews}
 use Rattle.chi_observer.specs.Worlds.{Drift, Sends, World, all_below, put}
 use Rattle.chi_observer.specs.Observed.{Meaning, Observed, Sound, fits, fits_word, next, takes, words_fit}
 use Rattle.chi_observer.specs.Laws.{ComesBy}
-use Rattle.chi_observer.specs.Listed.{Listed, MeaningWords, SendsWord, Words, agree, all_words, fits_known, fits_load, fits_words, has_stored, is_placed, known_words, may_be_empty, next_listed, no_words, takes_listed, words_after, words_by}
+use Rattle.chi_observer.specs.Worded.{MeaningWords, SendsWord, Worded, Words, agree, all_words, fits_known, fits_load, fits_words, has_stored, is_open, is_placed, known_words, may_be_empty, next_worded, no_words, takes_worded, words_by, words_stored}
 use Rattle.chi_observer.proofs.Finite.{no, left, right, both}
 use Rattle.chi_observer.proofs.Facts.{load_holds_data, no_data, of_form, one_of, or_here, or_there, other_of, reach_self, top_copy}
 use Rattle.chi_observer.proofs.Words.{any_word, known_word}
@@ -25,18 +25,36 @@ use Rattle.chi_observer.proofs.Loads.{load_silent}
 use Rattle.chi_observer.proofs.Back.{comes}
 use Rattle.chi_observer.proofs.ListedWords.{agree_at, agree_by, agree_list, all_unstored, drift_last, fits_word_of, revalue, revalued, same_back, set_else, set_here, set_word, word_of, words_list}
 use Rattle.chi_observer.proofs.ListedKnown.{HomeKnown}
-use Rattle.chi_observer.proofs.ListedSent.{full_copy, never_any}
+use Rattle.chi_observer.proofs.WordedSent.{full_copy, never_any, unrenewed}
 use Rattle.chi_observer.proofs.ListedBefore.{emptied, emptied_meant, emptied_sends, resent, store_silent, write_looks, write_stores}
 
 -- where a world comes from
-pub record ComesByWord (l : Listed) (f : CacheFlit) (w' : World) : Type 0 where
+pub record ComesByWord (l : Worded) (f : CacheFlit) (w' : World) : Type 0 where
   pub before : World
   pub sent : World
   pub meant : MeaningWords l before
   pub sends : SendsWord l.seen.public f before sent
-  pub drifts : Drift (next_listed l f).seen.public sent w'
+  pub drifts : Drift (next_worded l f).seen.public sent w'
 
 -- THE WORDS OF A FLIT
+-- where all stores are listed there is none beside
+abbrev listed_by : Act → Bool → Words → Words → Words
+listed_by (Store word) empty known words = put word.place.0 (Some word.value) (if empty then no_words else known)
+listed_by (Load word) empty known words = put word.place.0 (Some word.value) words
+listed_by other empty known words = words
+
+as_listed : (a : Act) (z : Stores) (loose any empty : Bool) (known words : Words) → z ≡ AllListed → loose ≡ false → any ≡ false → words_by z a loose any empty known words ≡ listed_by a empty known words
+as_listed (Store word) z loose any empty known words h q k = ap (λ (y : Stores). words_stored y word empty known) h
+as_listed (Load word) z loose any empty known words h q k =
+    ap (λ b. if b then no_words else (if any then words else put word.place.0 (Some word.value) words)) q
+    ∙ ap (λ b. if b then words else put word.place.0 (Some word.value) words) k
+as_listed other z loose any empty known words h q k = ap (λ b. if b then no_words else words) q
+
+unmarked : (shows r g any fit : Bool) → r ≡ false → any ≡ false → ((not shows || (r || g)) && (any || fit)) ≡ true → ((not shows || g) && fit) ≡ true
+unmarked shows true g any fit e k h = no (sym e)
+unmarked shows false g true fit e k h = no (sym k)
+unmarked shows false g false fit e k h = h
+
 put_at : (k : Words) (p u : ℕ) (v : List ℕ) → nat_lt p 8 ≡ true → agree (put p (Some u) k) v ≡ true → (word_at v p == u) ≡ true
 put_at k p u v low h = same_back u (word_at v p) (subst (λ (z : Option ℕ). fits_known z (word_at v p) ≡ true) (here p (Some u) k) (agree_at (put p (Some u) k) v h p (ltb-true p 8 low)))
 
@@ -44,12 +62,12 @@ put_else : (k : Words) (p u : ℕ) (v : List ℕ) → agree (put p (Some u) k) v
 put_else k p u v h q e low = subst (λ (z : Option ℕ). fits_known z (word_at v q) ≡ true) (there p (Some u) k q e) (agree_at (put p (Some u) k) v h q low)
 
 -- behind a load there is its word
-load_word : (a : Act) (e : Bool) (known k : Words) (v : List ℕ) → is_placed a ≡ true → agree (words_by a e known k) v ≡ true → has_word a v ≡ true
+load_word : (a : Act) (e : Bool) (known k : Words) (v : List ℕ) → is_placed a ≡ true → agree (listed_by a e known k) v ≡ true → has_word a v ≡ true
 load_word (Load word) e known k v low h = put_at k word.place.0 word.value v low h
 load_word other e known k v low h = refl
 
 -- and what was known before it
-words_before : (a : Act) (e : Bool) (known k : Words) (v : List ℕ) → is_placed a ≡ true → stores a ≡ false → fits_load a k ≡ true → agree (words_by a e known k) v ≡ true → agree k v ≡ true
+words_before : (a : Act) (e : Bool) (known k : Words) (v : List ℕ) → is_placed a ≡ true → stores a ≡ false → fits_load a k ≡ true → agree (listed_by a e known k) v ≡ true → agree k v ≡ true
 words_before (Load word) e known k v low q fit h = agree_by k v (split (λ p. p < 8 → fits_known (k p) (word_at v p) ≡ true) word.place.0
     (λ _. subst (λ z. fits_known (k word.place.0) z ≡ true) (sym (eqb-true (word_at v word.place.0) word.value (put_at k word.place.0 word.value v low h))) fit)
     (put_else k word.place.0 word.value v h))
@@ -61,7 +79,7 @@ not_stored : (a : Act) (b : Bool) (u v : List ℕ) → stores a ≡ false → ha
 not_stored (Store word) b u v q = no (sym q)
 not_stored other b u v q = refl
 
-stored_word : (a : Act) (e : Bool) (known k : Words) (u v : List ℕ) → is_placed a ≡ true → agree (words_by a e known k) v ≡ true → has_stored a false u v ≡ true
+stored_word : (a : Act) (e : Bool) (known k : Words) (u v : List ℕ) → is_placed a ≡ true → agree (listed_by a e known k) v ≡ true → has_stored a false u v ≡ true
 stored_word (Store word) e known k u v low h = both _ true (put_at (if e then no_words else known) word.place.0 word.value v low h) refl
 stored_word other e known k u v low h = refl
 
@@ -74,7 +92,7 @@ all_at : (u : List ℕ) (p v : ℕ) → p < 8 → fits_known (all_words (Some u)
 all_at u p v low h = same_back _ v (subst (λ (z : Option ℕ). fits_known z v ≡ true) (ap (λ b. if b then Some (word_at u p) else None) (lt-ltb p 8 low)) h)
 
 -- where all words before are known
-stored_all : (a : Act) (k : Words) (b : Bool) (u v : List ℕ) → is_placed a ≡ true → agree (words_by a false (all_words (Some u)) k) v ≡ true → has_stored a b u v ≡ true
+stored_all : (a : Act) (k : Words) (b : Bool) (u v : List ℕ) → is_placed a ≡ true → agree (listed_by a false (all_words (Some u)) k) v ≡ true → has_stored a b u v ≡ true
 stored_all (Store word) k b u v low h = stored_by (all_words (Some u)) word.place.0 word.value b u v low h
     (λ q e l. all_at u q (word_at v q) l (put_else (all_words (Some u)) word.place.0 word.value v h q e l))
 stored_all other k b u v low h = refl
@@ -84,14 +102,14 @@ value_before : Act → Words → List ℕ → List ℕ
 value_before (Store word) k v = set_word v word.place.0 (word_of (k word.place.0))
 value_before other k v = v
 
-before_agrees : (a : Act) (k : Words) (v : List ℕ) → stores a ≡ true → agree (words_by a false k k) v ≡ true → agree k (value_before a k v) ≡ true
+before_agrees : (a : Act) (k : Words) (v : List ℕ) → stores a ≡ true → agree (listed_by a false k k) v ≡ true → agree k (value_before a k v) ≡ true
 unfolding value_before
 before_agrees (Store word) k v q h = agree_by k _ (split (λ p. p < 8 → fits_known (k p) (word_at (set_word v word.place.0 (word_of (k word.place.0))) p) ≡ true) word.place.0
     (λ _. subst (λ z. fits_known (k word.place.0) z ≡ true) (sym (set_here v word.place.0 (word_of (k word.place.0)))) (fits_word_of (k word.place.0)))
     (λ p e low. subst (λ z. fits_known (k p) z ≡ true) (sym (set_else v word.place.0 (word_of (k word.place.0)) p (unlike p word.place.0 e))) (put_else k word.place.0 word.value v h p e low)))
 before_agrees other k v q h = no q
 
-before_stored : (a : Act) (k : Words) (b : Bool) (v : List ℕ) → is_placed a ≡ true → agree (words_by a false k k) v ≡ true → has_stored a b (value_before a k v) v ≡ true
+before_stored : (a : Act) (k : Words) (b : Bool) (v : List ℕ) → is_placed a ≡ true → agree (listed_by a false k k) v ≡ true → has_stored a b (value_before a k v) v ≡ true
 unfolding value_before
 before_stored (Store word) k b v low h = stored_by k word.place.0 word.value b (set_word v word.place.0 (word_of (k word.place.0))) v low h
     (λ q e l. eq-eqb _ _ (sym (set_else v word.place.0 (word_of (k word.place.0)) q (unlike q word.place.0 e))))
@@ -125,7 +143,7 @@ still_not false true c h e = refl
 still_not false false c h e = e
 
 -- THE WORLD BEFORE
-module _ (l : Listed) (f : CacheFlit) (w' : World) (listed : l.seen.public.stores ≡ AllListed) (sound : Sound l.seen) (home : HomeKnown l.seen) (low : f.agent.0 < 32) (take : takes_listed l f ≡ true) (m : MeaningWords (next_listed l f) w') where
+module _ (l : Worded) (f : CacheFlit) (w' : World) (listed : l.seen.public.stores ≡ AllListed) (sound : Sound l.seen) (home : HomeKnown l.seen) (low : f.agent.0 < 32) (take : takes_worded l f ≡ true) (m : MeaningWords (next_worded l f) w') where
   abbrev n : ℕ
   n = f.agent.0
 
@@ -143,6 +161,23 @@ module _ (l : Listed) (f : CacheFlit) (w' : World) (listed : l.seen.public.store
 
   abbrev r : Bool
   r = renews o.public.stores f.act x d t
+
+  abbrev any : Bool
+  any = reads_any o.public.stores d (most t)
+
+  steady : stores f.act ≡ false → r ≡ false
+  steady q = subst (λ z. renews z f.act x d t ≡ false) (sym listed) (unrenewed f.act x d t q)
+
+  never : any ≡ false
+  never = ap (λ (z : Stores). reads_any z d (most t)) listed
+
+  -- what is known behind it
+  abbrev behind_it : Words
+  behind_it = listed_by f.act (may_be_empty t.told) (known_words l) l.words
+
+  known_behind : (next o f).current ≡ false → agree behind_it w'.last ≡ true
+  known_behind c = subst (λ k. agree k w'.last ≡ true) (as_listed f.act o.public.stores (is_open l f) any (may_be_empty t.told) (known_words l) l.words listed (ap (λ (z : Stores). hides_stores z d && is_unique (most t)) listed) never)
+      (m.words c (all_unstored (next o f) w' listed))
 
   taken : takes o f ≡ true
   taken = left _ _ take
@@ -173,8 +208,8 @@ module _ (l : Listed) (f : CacheFlit) (w' : World) (listed : l.seen.public.store
   shown_is h = m.seen.current (ap (λ b. if b then true else (if r then false else o.current)) h) (all_unstored (next o f) w' listed)
       ∙ m.seen.home f.shown (ap (λ b. if b then Some f.shown else o.home) h)
 
-  fits_unknown : o.current ≡ false → ((not (has_data f.act) || agree l.words f.shown) && fits_load f.act l.words) ≡ true
-  fits_unknown c = other_of o.current _ (right (is_placed f.act) _ fitting) c
+  fits_unknown : stores f.act ≡ false → o.current ≡ false → ((not (has_data f.act) || agree l.words f.shown) && fits_load f.act l.words) ≡ true
+  fits_unknown q c = unmarked (has_data f.act) r (agree l.words f.shown) any (fits_load f.act l.words) (steady q) never (other_of o.current _ (right (is_placed f.act) _ fitting) c)
 
   -- the home's words, which are known where the copy has data
   module _ (has : holds_data (most t) ≡ true) (c : o.current ≡ true) where
@@ -193,14 +228,14 @@ module _ (l : Listed) (f : CacheFlit) (w' : World) (listed : l.seen.public.store
     kept_last : back.before.last ≡ w'.last
     kept_last = sym (back.sends.last (never_any o.public.stores f.act x d (back.before.state n).copy listed q) ∙ ap (λ b. if b then f.shown else back.before.last) e) ∙ sent_last
 
-    behind_silent : has_data f.act ≡ false → o.current ≡ false → agree (words_after f l) w'.last ≡ true
-    behind_silent h c = m.words (still_not (tells_words f.act) r o.current (or_from (has_data f.act) (writes f.act) h e) c)
+    behind_silent : has_data f.act ≡ false → o.current ≡ false → agree behind_it w'.last ≡ true
+    behind_silent h c = known_behind (still_not (tells_words f.act) r o.current (or_from (has_data f.act) (writes f.act) h e) c)
 
     plain_words : o.current ≡ false → (b : Bool) → has_data f.act ≡ b → agree l.words back.before.last ≡ true
     plain_words c true h = subst (λ v. agree l.words v ≡ true) (sym (kept_last ∙ shown_is (or_here _ _ h)))
-        (other_of (not (has_data f.act)) _ (left _ (fits_load f.act l.words) (fits_unknown c)) (ap not h))
+        (other_of (not (has_data f.act)) _ (left _ (fits_load f.act l.words) (fits_unknown q c)) (ap not h))
     plain_words c false h = subst (λ v. agree l.words v ≡ true) (sym kept_last)
-        (words_before f.act (may_be_empty t.told) (known_words l) l.words w'.last placed q (right (not (has_data f.act) || agree l.words f.shown) _ (fits_unknown c)) (behind_silent h c))
+        (words_before f.act (may_be_empty t.told) (known_words l) l.words w'.last placed q (right (not (has_data f.act) || agree l.words f.shown) _ (fits_unknown q c)) (behind_silent h c))
 
     load_last : looks f.act ≡ true → (c : Bool) → o.current ≡ c → has_word f.act back.before.last ≡ true
     load_last k true c =
@@ -220,8 +255,8 @@ module _ (l : Listed) (f : CacheFlit) (w' : World) (listed : l.seen.public.store
     plain_comes = record {
       before = back.before;
       sent = back.sent;
-      meant = record { seen = back.meant; words = λ c. plain_words c (has_data f.act) refl };
-      sends = record { sends = back.sends; placed = placed; loaded = load_copy (looks f.act) refl; stored = not_stored f.act _ _ _ q };
+      meant = record { seen = back.meant; words = λ c _. plain_words c (has_data f.act) refl };
+      sends = record { sends = back.sends; placed = placed; loaded = or_there _ _ (load_copy (looks f.act) refl); stored = or_there (are_hidden o.public.stores) _ (not_stored f.act _ _ _ q) };
       drifts = back.drifts;
     }
 
@@ -231,28 +266,28 @@ module _ (l : Listed) (f : CacheFlit) (w' : World) (listed : l.seen.public.store
     write_comes true c = record {
       before = back.before;
       sent = back.sent;
-      meant = record { seen = back.meant; words = λ z. no (sym z ∙ c) };
-      sends = record { sends = back.sends; placed = placed; loaded = any_word f.act _ (write_looks f.act e); stored = not_stored f.act _ _ _ (write_stores f.act e) };
+      meant = record { seen = back.meant; words = λ z _. no (sym z ∙ c) };
+      sends = record { sends = back.sends; placed = placed; loaded = or_there _ _ (any_word f.act _ (write_looks f.act e)); stored = or_there (are_hidden o.public.stores) _ (not_stored f.act _ _ _ (write_stores f.act e)) };
       drifts = back.drifts;
     }
     write_comes false c = record {
       before = revalue (words_list l.words) back.before;
       sent = back.sent;
-      meant = record { seen = revalued o (words_list l.words) back.before back.meant c; words = λ _. agree_list l.words };
+      meant = record { seen = revalued o (words_list l.words) back.before back.meant c; words = λ _ _. agree_list l.words };
       sends = record {
         sends = resent o f back.before back.sent sound low back.meant back.sends (no_data f.act e) (or_here _ _ e) (words_list l.words);
         placed = placed;
-        loaded = any_word f.act _ (write_looks f.act e);
-        stored = not_stored f.act _ _ _ (write_stores f.act e);
+        loaded = or_there _ _ (any_word f.act _ (write_looks f.act e));
+        stored = or_there (are_hidden o.public.stores) _ (not_stored f.act _ _ _ (write_stores f.act e));
       };
       drifts = back.drifts;
     }
 
   -- A STORE
   module _ (q : stores f.act ≡ true) where
-    behind : agree (words_after f l) back.sent.last ≡ true
-    behind = subst (λ v. agree (words_after f l) v ≡ true) (sym sent_last)
-        (m.words (ap (λ b. if b then true else (if r then false else o.current)) (or_from _ _ (store_silent f.act q) (store_writes f.act q)) ∙ ap (λ b. if b then false else o.current) (store_renews o.public.stores f.act x d t q)))
+    behind : agree behind_it back.sent.last ≡ true
+    behind = subst (λ v. agree behind_it v ≡ true) (sym sent_last)
+        (known_behind (ap (λ b. if b then true else (if r then false else o.current)) (or_from _ _ (store_silent f.act q) (store_writes f.act q)) ∙ ap (λ b. if b then false else o.current) (store_renews o.public.stores f.act x d t q)))
 
     -- of a copy that may have been without data
     module _ (may : may_be_empty t.told ≡ true) where
@@ -276,61 +311,61 @@ module _ (l : Listed) (f : CacheFlit) (w' : World) (listed : l.seen.public.store
       bare_comes true c = record {
         before = bare;
         sent = back.sent;
-        meant = record { seen = bare_meant; words = λ z. no (sym z ∙ c) };
-        sends = record { sends = bare_sends; placed = placed; loaded = any_word f.act _ (store_looks f.act q); stored = bare_stored bare.last };
+        meant = record { seen = bare_meant; words = λ z _. no (sym z ∙ c) };
+        sends = record { sends = bare_sends; placed = placed; loaded = or_there _ _ (any_word f.act _ (store_looks f.act q)); stored = or_there (are_hidden o.public.stores) _ (bare_stored bare.last) };
         drifts = back.drifts;
       }
       bare_comes false c = record {
         before = revalue (words_list l.words) bare;
         sent = back.sent;
-        meant = record { seen = revalued o (words_list l.words) bare bare_meant c; words = λ _. agree_list l.words };
+        meant = record { seen = revalued o (words_list l.words) bare bare_meant c; words = λ _ _. agree_list l.words };
         sends = record {
           sends = resent o f bare back.sent sound low bare_meant bare_sends (store_silent f.act q) (or_there (writes f.act) _ q) (words_list l.words);
           placed = placed;
-          loaded = any_word f.act _ (store_looks f.act q);
-          stored = bare_stored (words_list l.words);
+          loaded = or_there _ _ (any_word f.act _ (store_looks f.act q));
+          stored = or_there (are_hidden o.public.stores) _ (bare_stored (words_list l.words));
         };
         drifts = back.drifts;
       }
 
     -- and of one with data
     module _ (full : may_be_empty t.told ≡ false) where
-      behind_full : agree (words_by f.act false (known_words l) l.words) back.sent.last ≡ true
-      behind_full = subst (λ b. agree (words_by f.act b (known_words l) l.words) back.sent.last ≡ true) full behind
+      behind_full : agree (listed_by f.act false (known_words l) l.words) back.sent.last ≡ true
+      behind_full = subst (λ b. agree (listed_by f.act b (known_words l) l.words) back.sent.last ≡ true) full behind
 
       has_full : holds_data (most t) ≡ true
       has_full = store_told f.act x d t q told_fits full
 
-      behind_home : (c : o.current ≡ true) → agree (words_by f.act false (all_words (Some (known_home has_full c).0)) l.words) back.sent.last ≡ true
-      behind_home c = subst (λ (z : Option (List ℕ)). agree (words_by f.act false (all_words z) l.words) back.sent.last ≡ true) (known_home has_full c).1
-          (subst (λ b. agree (words_by f.act false (if b then all_words o.home else l.words) l.words) back.sent.last ≡ true) c behind_full)
+      behind_home : (c : o.current ≡ true) → agree (listed_by f.act false (all_words (Some (known_home has_full c).0)) l.words) back.sent.last ≡ true
+      behind_home c = subst (λ (z : Option (List ℕ)). agree (listed_by f.act false (all_words z) l.words) back.sent.last ≡ true) (known_home has_full c).1
+          (subst (λ b. agree (listed_by f.act false (if b then all_words o.home else l.words) l.words) back.sent.last ≡ true) c behind_full)
 
-      behind_words : o.current ≡ false → agree (words_by f.act false l.words l.words) back.sent.last ≡ true
-      behind_words c = subst (λ b. agree (words_by f.act false (if b then all_words o.home else l.words) l.words) back.sent.last ≡ true) c behind_full
+      behind_words : o.current ≡ false → agree (listed_by f.act false l.words l.words) back.sent.last ≡ true
+      behind_words c = subst (λ b. agree (listed_by f.act false (if b then all_words o.home else l.words) l.words) back.sent.last ≡ true) c behind_full
 
       full_comes : (c : Bool) → o.current ≡ c → ComesByWord l f w'
       full_comes true c = record {
         before = back.before;
         sent = back.sent;
-        meant = record { seen = back.meant; words = λ z. no (sym z ∙ c) };
+        meant = record { seen = back.meant; words = λ z _. no (sym z ∙ c) };
         sends = record {
           sends = back.sends;
           placed = placed;
-          loaded = any_word f.act _ (store_looks f.act q);
-          stored = subst (λ u. has_stored f.act (holds_data (back.before.state n).copy) u back.sent.last ≡ true) (sym (last_home has_full c))
-              (stored_all f.act l.words _ (known_home has_full c).0 back.sent.last placed (behind_home c));
+          loaded = or_there _ _ (any_word f.act _ (store_looks f.act q));
+          stored = or_there (are_hidden o.public.stores) _ (subst (λ u. has_stored f.act (holds_data (back.before.state n).copy) u back.sent.last ≡ true) (sym (last_home has_full c))
+              (stored_all f.act l.words _ (known_home has_full c).0 back.sent.last placed (behind_home c)));
         };
         drifts = back.drifts;
       }
       full_comes false c = let u : List ℕ = value_before f.act l.words back.sent.last in record {
         before = revalue u back.before;
         sent = back.sent;
-        meant = record { seen = revalued o u back.before back.meant c; words = λ _. before_agrees f.act l.words back.sent.last q (behind_words c) };
+        meant = record { seen = revalued o u back.before back.meant c; words = λ _ _. before_agrees f.act l.words back.sent.last q (behind_words c) };
         sends = record {
           sends = resent o f back.before back.sent sound low back.meant back.sends (store_silent f.act q) (or_there (writes f.act) _ q) u;
           placed = placed;
-          loaded = any_word f.act _ (store_looks f.act q);
-          stored = before_stored f.act l.words _ back.sent.last placed (behind_words c);
+          loaded = or_there _ _ (any_word f.act _ (store_looks f.act q));
+          stored = or_there (are_hidden o.public.stores) _ (before_stored f.act l.words _ back.sent.last placed (behind_words c));
         };
         drifts = back.drifts;
       }
@@ -344,5 +379,5 @@ module _ (l : Listed) (f : CacheFlit) (w' : World) (listed : l.seen.public.store
   comes_by false true q e = write_comes e o.current refl
   comes_by false false q e = plain_comes q e
 
-pub words_come : (l : Listed) (f : CacheFlit) (w' : World) → l.seen.public.stores ≡ AllListed → Sound l.seen → HomeKnown l.seen → f.agent.0 < 32 → takes_listed l f ≡ true → MeaningWords (next_listed l f) w' → ComesByWord l f w'
+pub words_come : (l : Worded) (f : CacheFlit) (w' : World) → l.seen.public.stores ≡ AllListed → Sound l.seen → HomeKnown l.seen → f.agent.0 < 32 → takes_worded l f ≡ true → MeaningWords (next_worded l f) w' → ComesByWord l f w'
 words_come l f w' listed sound home low take m = comes_by l f w' listed sound home low take m (stores f.act) (writes f.act) refl refl

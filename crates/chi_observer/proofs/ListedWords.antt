@@ -9,7 +9,7 @@ use Rattle.chi_observer.specs.Tables.{fresh}
 use Rattle.chi_observer.specs.Worlds.{Public, World, StoresUnseen, Drops, Cancels, Drift}
 use Rattle.chi_observer.specs.Worlds.Drift.{Stay, Step}
 use Rattle.chi_observer.specs.Observed.{Observed, Unstored, Meaning}
-use Rattle.chi_observer.specs.Listed.{Words, fits_known, agree}
+use Rattle.chi_observer.specs.Worded.{Words, fits_known, agree}
 use Rattle.chi_observer.proofs.Finite.{no, both}
 use Rattle.chi_observer.proofs.Copies.{each_below, below_all}
 use Rattle.chi_observer.proofs.Put.{alike, differ, unlike}

@@ -2,6 +2,7 @@
 use Rattle.std.specs.Prelude.{◌≡◌, ◌<◌, true}
 use Rattle.chi_observer.specs.declared.flits.CacheFlit.{CacheFlit}
 use Rattle.chi_observer.specs.declared.flits.HomeFlit.{HomeFlit}
+use Rattle.chi_observer.specs.Rules.{tells_words}
 use Rattle.chi_observer.specs.Worlds.{World, Coherent, Hidden, Drift, Sends, reads, Gives, IsSafe, Informed}
 use Rattle.chi_observer.specs.Observed.{Observed, Sound, Meaning, takes, next, takes_home, next_home}
 
@@ -16,6 +17,10 @@ CacheFlitsAreTaken = (o : Observed) (f : CacheFlit) (w w' : World) → Sound o �
 
 abbrev pub CacheFlitsLead : Type 0
 CacheFlitsLead = (o : Observed) (f : CacheFlit) (w w' : World) → Sound o → f.agent.0 < 32 → Meaning o w → Sends o.public f w w' → Meaning (next o f) w'
+
+-- the home has the value last stored where the flit tells words
+abbrev pub CacheFlitsTellTheValue : Type 0
+CacheFlitsTellTheValue = (o : Observed) (f : CacheFlit) (w w' : World) → Sound o → f.agent.0 < 32 → Meaning o w → Sends o.public f w w' → tells_words f.act ≡ true → w'.last ≡ w'.home
 
 abbrev pub CacheFlitsKeepSound : Type 0
 CacheFlitsKeepSound = (o : Observed) (f : CacheFlit) → Sound o → f.agent.0 < 32 → takes o f ≡ true → Sound (next o f)

@@ -7,13 +7,13 @@ pub mod Observed
 pub mod Moments
 pub mod Laws
 pub mod Runs
-pub mod Listed
+pub mod Worded
 pub mod ListedRuns
-pub mod ListedLaws
+pub mod WordedLaws
 pub mod Lines
 pub mod Counted
+pub mod WordedLines
 pub mod Wanted
-pub mod ListedLines
 pub mod Begun
 pub mod Tails
 pub mod Arriving

@@ -9,7 +9,7 @@ use Rattle.chi_observer.specs.Worlds.{World, Coherent, Drift, Gives, Informed, I
 use Rattle.chi_observer.specs.Observed.{takes_home}
 use Rattle.chi_observer.specs.Moments.{has_moment}
 use Rattle.chi_observer.specs.Runs.{After, HasNeeded, public_of, seen, shown_by}
-use Rattle.chi_observer.specs.Listed.{Listed, MeaningWords, SendsWord, Words, no_words, takes_listed, words_after, words_granted}
+use Rattle.chi_observer.specs.Worded.{Worded, MeaningWords, SendsWord, Words, no_words, takes_worded, words_after, words_granted}
 
 -- THE TRUTH
 -- the worlds that hidden steps and the flits leave: each load had its word, and each store made its own
@@ -32,12 +32,12 @@ words_seen [] = no_words
 words_seen (Up f ∷ es) = words_after f (record { seen = seen AllListed es; words = words_seen es })
 words_seen (Down g ∷ es) = words_granted g (record { seen = seen AllListed es; words = words_seen es })
 
-abbrev pub listed : List Flit → Listed
+abbrev pub listed : List Flit → Worded
 listed es = record { seen = seen AllListed es; words = words_seen es }
 
 abbrev pub AcceptedWords : List Flit → Type 0
 AcceptedWords [] = ⊤
-AcceptedWords (Up f ∷ es) = AcceptedWords es × (f.agent.0 < 32) × (takes_listed (listed es) f ≡ true) × (is_judged (Up f) ≡ true)
+AcceptedWords (Up f ∷ es) = AcceptedWords es × (f.agent.0 < 32) × (takes_worded (listed es) f ≡ true) × (is_judged (Up f) ≡ true)
 AcceptedWords (Down g ∷ es) = AcceptedWords es × (g.agent.0 < 32) × (takes_home (seen AllListed es) g ≡ true) × (is_judged (Down g) ≡ true) × (has_moment (seen AllListed es) (shown_by AllListed es) g ≡ true)
 
 -- the worlds that an accepted trace leaves

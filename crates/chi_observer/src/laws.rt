@@ -1,9 +1,9 @@
 //! Laws of the rules.
 
 ghost use Rattle.chi_observer.specs.Runs.{LegalIsAccepted, AcceptedIsLegal, AcceptedIsExact, AcceptedIsCoherent, ReadOnceShowsValue};
-ghost use Rattle.chi_observer.specs.ListedLaws.{ListedFlitsAreTaken, ListedFlitsLead, ListedHomeFlitsLead};
+ghost use Rattle.chi_observer.specs.WordedLaws.{WordedFlitsAreTaken, WordedFlitsLead, WordedHomeFlitsLead, WordsAreClosed, WordsAreHeldCalm};
 ghost use Rattle.chi_observer.specs.ListedRuns.{LegalWordsAreAccepted, AcceptedWordsAreLegal, AcceptedWordsAreExact, AcceptedWordsAreCoherent};
-ghost use Rattle.chi_observer.specs.Laws.{MeaningIsCoherent, MeaningIsClosed, CacheFlitsAreTaken, CacheFlitsArePossible, CacheFlitsLead, CacheFlitsKeepSound, MeaningComes, HomeFlitsKeepSound, HomeFlitsAreSafe, HomeFlitsLead, HomeFlitsArePossible, SafeFlitsAreTaken, MeaningComesByHome};
+ghost use Rattle.chi_observer.specs.Laws.{MeaningIsCoherent, MeaningIsClosed, CacheFlitsAreTaken, CacheFlitsArePossible, CacheFlitsLead, CacheFlitsTellTheValue, CacheFlitsKeepSound, MeaningComes, HomeFlitsKeepSound, HomeFlitsAreSafe, HomeFlitsLead, HomeFlitsArePossible, SafeFlitsAreTaken, MeaningComesByHome};
 
 /// The law that each world that the observer's state stands for is coherent, and hidden steps lead to none that it
 /// doesn't stand for.
@@ -14,12 +14,13 @@ pub fn meaning()
 {}
 
 /// The law that a flit of a cache is taken exactly where some world sends it, in which its copy has the word of a load,
-/// and leads to just the worlds that it leaves, whatever a load's word.
+/// and leads to just the worlds that it leaves, whatever a load's word; and that its words are the value last stored.
 /// Source: `docs/OBSERVER.md`, "What is proved".
 pub fn cache_flits()
     ensures taken { CacheFlitsAreTaken }
     ensures possible { CacheFlitsArePossible }
     ensures leads { CacheFlitsLead }
+    ensures tells { CacheFlitsTellTheValue }
     ensures sound { CacheFlitsKeepSound }
     ensures comes { MeaningComes }
 {}
@@ -48,13 +49,16 @@ pub fn traces()
     ensures values { ReadOnceShowsValue }
 {}
 
-/// The law that, where all stores are listed, a flit of a cache that some world sends word by word is taken, and that it and
-/// one of the home lead to worlds that the known words behind it stand for too.
+/// The law that a flit of a cache that some world sends word by word is taken, and that it and one of the home lead to worlds
+/// that the known words behind it stand for too, and so do hidden steps; and that words are held against those that are known
+/// only where no copy may be stored to unseen.
 /// Source: `docs/OBSERVER.md`, "What is proved".
-pub fn listed_flits()
-    ensures taken { ListedFlitsAreTaken }
-    ensures leads { ListedFlitsLead }
-    ensures given { ListedHomeFlitsLead }
+pub fn worded_flits()
+    ensures taken { WordedFlitsAreTaken }
+    ensures leads { WordedFlitsLead }
+    ensures given { WordedHomeFlitsLead }
+    ensures closed { WordsAreClosed }
+    ensures calm { WordsAreHeldCalm }
 {}
 
 /// The law of traces whose stores are all listed, word by word: one is accepted exactly where it is legal; the worlds behind

@@ -38,6 +38,15 @@ pub struct AgentSeen {
     pub snooped: Option<Snoop>,
 }
 
+/// One of whom nothing was told.
+/// Source: `docs/OBSERVER.md`, "What is kept".
+pub const NOBODY: AgentSeen = AgentSeen {
+    told: Told::I,
+    cancelled: false,
+    due: Due::Nothing,
+    snooped: None,
+};
+
 /// What flits have told of one line.
 /// Source: `docs/OBSERVER.md`, "What is kept".
 #[derive(Clone, Debug, Drop, PartialEq, Eq)]
@@ -96,15 +105,9 @@ impl Observer {
     pub fn new(stores: Stores) -> Observer
         ensures { watched result ≡ nothing_watched stores }
     {
-        let nobody = AgentSeen {
-            told: Told::I,
-            cancelled: false,
-            due: Due::Nothing,
-            snooped: None,
-        };
         Observer {
             stores,
-            agents: [nobody; 32],
+            agents: [NOBODY; 32],
             home: None,
             current: true,
             duty: false,

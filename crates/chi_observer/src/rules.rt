@@ -165,7 +165,7 @@ pub(crate) fn has_data(act: Act) -> bool
 }
 
 /// Whether a flit of a cache has the whole line, which its cache writes without a copy.
-fn writes(act: Act) -> bool
+pub(crate) fn writes(act: Act) -> bool
     ensures { result ≡ writes act }
 {
     matches!(act, Act::NonCopyBackWrData)

@@ -24,9 +24,10 @@ pub enum Wanted {
     Free,
 }
 
-/// The law by which data in beats are told at their first beat: flits without words go on whatever the home's words are, and
-/// leave them; data whose words may be any are taken with any, and change the home's words by them alone, or nothing; and
-/// those whose words are to be known are taken with the home's alone.
+/// The law by which data in beats are told at their first beat: flits without words, but for stores where all are listed, go on
+/// whatever the home's words are, and leave them; data whose words may be any are taken with any that are as loads and stores
+/// told, and change the home's words by them alone, or nothing; and those whose words are to be known are taken with the
+/// home's alone.
 /// Source: `docs/OBSERVER.md`, "Data in beats".
 pub fn data_in_beats()
     ensures apart { WordlessFlitsAreApart }

@@ -1,14 +1,14 @@
-//! What loads and stores tell of words where all stores are listed.
+//! What loads and stores tell of words: of each where all stores are listed; and else of a dirty copy whose request is open.
 
 use crate::flits::{NEW, NINE, OLD, SEVEN, down, up};
-use chi_flit::State::UC;
+use chi_flit::State::{UC, UD};
 use chi_flit::{Data, NO_DATA, WordNo};
-use chi_observer::Act::{CompAck, Load, Request, SnpResp, Store};
+use chi_observer::Act::{CompAck, CopyBackWrData, Load, Request, Resend, SnpResp, Store};
 use chi_observer::Answer::SnpRespDataIPD;
-use chi_observer::Grant::{CompData, CompUC, Snp};
-use chi_observer::Kind::{MakeUnique, ReadUnique};
+use chi_observer::Grant::{CompDBIDResp, CompData, CompUC, RetryAck, Snp};
+use chi_observer::Kind::{MakeUnique, ReadUnique, WriteBackFull};
 use chi_observer::Snoop::SnpUnique;
-use chi_observer::{Flit, ListedObserver, Reason, Word};
+use chi_observer::{Flit, Reason, Stores, Word, WordedObserver};
 use std::process::Abort;
 
 /// Another word than the third.
@@ -21,8 +21,8 @@ const FIVE: Word = Word {
 const LATER: Data = [7, 7, 7, 9, 7, 5, 7, 7];
 
 /// An observer behind these flits, each of which it takes.
-fn behind(rt: &impl Abort, flits: [Flit; 4]) -> ListedObserver {
-    let mut observer = ListedObserver::new();
+fn behind(rt: &impl Abort, stores: Stores, flits: [Flit; 4]) -> WordedObserver {
+    let mut observer = WordedObserver::new(stores);
     for flit in flits {
         assert!(rt; observer.take(flit) == Ok(()));
     }
@@ -30,25 +30,25 @@ fn behind(rt: &impl Abort, flits: [Flit; 4]) -> ListedObserver {
 }
 
 /// Of a line that agent 0 has read alone, with the old words, before it does this.
-fn behind_a_read(rt: &impl Abort, act: Flit) -> ListedObserver {
+fn behind_a_read(rt: &impl Abort, act: Flit) -> WordedObserver {
     let flits = [
         up(0, Request(ReadUnique), NO_DATA),
         down(0, CompData(UC), OLD),
         up(0, CompAck, NO_DATA),
         act,
     ];
-    behind(rt, flits)
+    behind(rt, Stores::Listed, flits)
 }
 
 /// The same where it has made the line unique, and written it.
-fn behind_a_make(rt: &impl Abort, act: Flit) -> ListedObserver {
+fn behind_a_make(rt: &impl Abort, act: Flit) -> WordedObserver {
     let flits = [
         up(0, Request(MakeUnique), NO_DATA),
         down(0, CompUC, NO_DATA),
         up(0, CompAck, NO_DATA),
         act,
     ];
-    behind(rt, flits)
+    behind(rt, Stores::Listed, flits)
 }
 
 #[test]
@@ -100,4 +100,113 @@ fn a_line_has_eight_words(rt: HostRuntime) {
     };
     let found = observer.take(up(0, Load(beyond), NO_DATA));
     assert!(rt; found == Err(Reason::NotSent), "{found:?}");
+}
+
+/// An observer of hidden stores behind agent 0's read of the old words, alone, and its WriteBackFull.
+fn behind_a_write_back(rt: &impl Abort) -> WordedObserver {
+    let flits = [
+        up(0, Request(ReadUnique), NO_DATA),
+        down(0, CompData(UC), OLD),
+        up(0, CompAck, NO_DATA),
+        up(0, Request(WriteBackFull), NO_DATA),
+    ];
+    behind(rt, Stores::Hidden, flits)
+}
+
+/// What comes of the last of these flits, where it takes the others.
+fn last_of(rt: &impl Abort, observer: &mut WordedObserver, flits: &[Flit]) -> Result<(), Reason> {
+    let mut last = Ok(());
+    for flit in flits {
+        assert!(rt; last == Ok(()));
+        last = observer.take(*flit);
+    }
+    last
+}
+
+#[test]
+fn a_dirty_copy_stays_while_its_request_is_open(rt: HostRuntime) {
+    let mut observer = behind_a_write_back(&rt);
+    let flits = [
+        up(0, Load(NINE), NO_DATA),
+        up(0, Load(FIVE), NO_DATA),
+        up(0, Load(SEVEN), NO_DATA),
+    ];
+    let found = last_of(&rt, &mut observer, &flits);
+    assert!(rt; found == Err(Reason::OtherWords), "{found:?}");
+    let again = observer.take(up(0, Load(NINE), NO_DATA));
+    assert!(rt; again.is_ok(), "{again:?}");
+}
+
+#[test]
+fn its_write_data_have_the_words_that_were_loaded(rt: HostRuntime) {
+    let mut observer = behind_a_write_back(&rt);
+    let flits = [
+        up(0, Load(NINE), NO_DATA),
+        down(0, CompDBIDResp, NO_DATA),
+        up(0, CopyBackWrData(UD), OLD),
+    ];
+    let found = last_of(&rt, &mut observer, &flits);
+    assert!(rt; found == Err(Reason::OtherWords), "{found:?}");
+    let written = observer.take(up(0, CopyBackWrData(UD), NEW));
+    assert!(rt; written.is_ok(), "{written:?}");
+}
+
+#[test]
+fn so_does_its_answer(rt: HostRuntime) {
+    let mut observer = behind_a_write_back(&rt);
+    let flits = [
+        up(0, Load(NINE), NO_DATA),
+        up(1, Request(ReadUnique), NO_DATA),
+        down(0, Snp(SnpUnique), NO_DATA),
+        up(0, SnpResp(SnpRespDataIPD), OLD),
+    ];
+    let found = last_of(&rt, &mut observer, &flits);
+    assert!(rt; found == Err(Reason::OtherWords), "{found:?}");
+    let written = observer.take(up(0, SnpResp(SnpRespDataIPD), NEW));
+    assert!(rt; written.is_ok(), "{written:?}");
+}
+
+#[test]
+fn a_retried_request_may_be_cancelled_and_the_copy_stored_to(rt: HostRuntime) {
+    let mut observer = behind_a_write_back(&rt);
+    let flits = [
+        up(0, Load(NINE), NO_DATA),
+        down(0, RetryAck, NO_DATA),
+        up(0, Load(SEVEN), NO_DATA),
+        up(0, Request(WriteBackFull), NO_DATA),
+        up(0, Load(SEVEN), NO_DATA),
+    ];
+    let found = last_of(&rt, &mut observer, &flits);
+    assert!(rt; found.is_ok(), "{found:?}");
+}
+
+#[test]
+fn one_that_is_sent_again_leaves_the_words_of_its_copy(rt: HostRuntime) {
+    let mut observer = behind_a_write_back(&rt);
+    let flits = [
+        up(0, Load(NINE), NO_DATA),
+        down(0, RetryAck, NO_DATA),
+        up(0, Resend(WriteBackFull), NO_DATA),
+        up(0, Load(NINE), NO_DATA),
+        up(0, Load(SEVEN), NO_DATA),
+    ];
+    let found = last_of(&rt, &mut observer, &flits);
+    assert!(rt; found == Err(Reason::OtherWords), "{found:?}");
+}
+
+#[test]
+fn what_was_loaded_before_the_request_is_forgotten(rt: HostRuntime) {
+    let flits = [
+        up(0, Request(MakeUnique), NO_DATA),
+        down(0, CompUC, NO_DATA),
+        up(0, CompAck, NO_DATA),
+        up(0, Load(SEVEN), NO_DATA),
+    ];
+    let mut observer = behind(&rt, Stores::Hidden, flits);
+    let last = [
+        up(0, Request(WriteBackFull), NO_DATA),
+        up(0, Load(NINE), NO_DATA),
+    ];
+    let found = last_of(&rt, &mut observer, &last);
+    assert!(rt; found.is_ok(), "{found:?}");
 }

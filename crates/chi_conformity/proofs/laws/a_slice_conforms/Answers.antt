@@ -8,10 +8,12 @@ returns c =
       closed = c.meaning.ensures.closed;
       taken = c.cache_flits.ensures.taken;
       leads = c.cache_flits.ensures.leads;
+      tells = c.cache_flits.ensures.tells;
+      calm = c.worded_flits.ensures.calm;
       kept = c.cache_flits.ensures.sound;
       counted_taken = c.counted_loads.ensures.taken;
       counted_lead = c.counted_loads.ensures.leads;
       home_kept = c.home_flits.ensures.sound;
       home_leads = c.home_flits.ensures.leads;
     } in
-    record { taken = conform laws; listed = conform_by_word laws }
+    record { taken = conform laws; by_word = conform_by_word laws }

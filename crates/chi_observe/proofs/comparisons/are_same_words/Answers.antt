@@ -1,7 +1,7 @@
 -- All words are compared.
 use Rattle.std.proofs.Common.{rules, arith, ◌≡◌, ℕ, subst, length}
 use Rattle.std.specs.Bool.{Decides}
-use Rattle.chi_observer.specs.ListedLines.{words_of}
+use Rattle.chi_observer.specs.WordedLines.{words_of}
 use Rattle.chi_observe.proofs.EqualWords.{AreSameBelow, words_same}
 use Rattle.chi_observe.proofs.comparisons.are_same_words.Goals as goal
 

@@ -1,6 +1,6 @@
 -- So far the same is known of each word.
 use Rattle.std.specs.Bool.{Decides}
-use Rattle.chi_observer.specs.ListedLines.{words_of}
+use Rattle.chi_observer.specs.WordedLines.{words_of}
 use Rattle.chi_observe.proofs.EqualWords.{AreSameBelow}
 use Rattle.chi_observe.proofs.comparisons.are_same_words.Given as goal
 

@@ -2,7 +2,7 @@
 use Rattle.std.proofs.Common.{◌≡◌, List, ℕ, refl, sym, ap}
 use Rattle.std.proofs.Math.Path.{fun_ext}
 use Rattle.std.specs.Prelude.{Bool, true, false, ◌&&◌, Option, None, if◌then◌else◌}
-use Rattle.chi_observer.specs.Listed.{Words, all_words, no_words}
+use Rattle.chi_observer.specs.Worded.{Words, all_words, no_words}
 
 -- where no words are given none is known
 pub all_unknown : (o : Option (List ℕ)) → o ≡ None → no_words ≡ all_words o

@@ -3,8 +3,8 @@ use Rattle.std.proofs.Common.{rules, ◌≡◌, sym, ◌∙◌}
 use Rattle.std.specs.Prelude.{false}
 use Rattle.chi_observer.specs.Lines.{is_taken, watched}
 use Rattle.chi_observer.specs.declared.flits.Flit.TheVariants.{Up}
-use Rattle.chi_observer.proofs.ListedLines.{unfit}
-use Rattle.chi_observer.proofs.listed.ListedObserver.take_sent.Goals as goal
+use Rattle.chi_observer.proofs.WordedLines.{unfit}
+use Rattle.chi_observer.proofs.worded.WordedObserver.take_sent.Goals as goal
 
 pub returns-then-not-fits-clause-taken : goal.returns-then-not-fits-clause-taken
 returns-then-not-fits-clause-taken c =

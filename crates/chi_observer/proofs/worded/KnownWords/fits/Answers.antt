@@ -2,9 +2,9 @@
 use Rattle.std.proofs.Common.{arith, ◌≡◌, ℕ, subst}
 use Rattle.chi_observer.specs.Rules.{word_at}
 use Rattle.chi_observer.specs.Worlds.{all_below}
-use Rattle.chi_observer.specs.Listed.{fits_known}
-use Rattle.chi_observer.specs.ListedLines.{words_of}
-use Rattle.chi_observer.proofs.listed.KnownWords.fits.Goals as goal
+use Rattle.chi_observer.specs.Worded.{fits_known}
+use Rattle.chi_observer.specs.WordedLines.{words_of}
+use Rattle.chi_observer.proofs.worded.KnownWords.fits.Goals as goal
 
 pub returns : goal.returns
 returns c =

@@ -1,0 +1,19 @@
+use Rattle.chi_observer.proofs.WordedCalm.{held_calm}
+use Rattle.chi_observer.proofs.WordedGiven.{words_closed, words_lead_home}
+use Rattle.chi_observer.proofs.WordedSent.{words_lead, words_taken}
+use Rattle.chi_observer.proofs.laws.worded_flits.Goals as goal
+
+pub returns-clause-taken : goal.returns-clause-taken
+returns-clause-taken c = words_taken
+
+pub returns-clause-leads : goal.returns-clause-leads
+returns-clause-leads c = words_lead
+
+pub returns-clause-given : goal.returns-clause-given
+returns-clause-given c = words_lead_home
+
+pub returns-clause-closed : goal.returns-clause-closed
+returns-clause-closed c = words_closed
+
+pub returns-clause-calm : goal.returns-clause-calm
+returns-clause-calm c = held_calm
