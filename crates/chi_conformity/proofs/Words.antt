@@ -33,10 +33,11 @@ use Rattle.chi_observer.specs.Lines.{is_taken, watch}
 use Rattle.chi_observer.specs.Worded.{Words, agree, all_words, fits_known, fits_load, is_open, is_placed, known_words, may_be_empty, may_read_any, no_words, renewed, words_by, words_stored}
 use Rattle.chi_observer.specs.WordedLines.{WatchedWords, is_taken_worded, worded_in, watch_worded}
 use Rattle.chi_observer.specs.WordedLaws.{Calm}
+use Rattle.chi_observer.proofs.ListedWords.{agree_at}
+use Rattle.chi_observer.proofs.WordedSent.{home_agrees, put_agrees, unopened}
 use Rattle.chi_conformity.proofs.Held.{Stands}
 use Rattle.chi_conformity.proofs.Flits.{Laws}
 use Rattle.chi_conformity.proofs.Put.{differ, here, there}
-use Rattle.chi_conformity.proofs.Grants.{below_all}
 use Rattle.chi_conformity.proofs.Taken.{Follows, FollowsBy}
 use Rattle.chi_conformity.proofs.Told.{no, both, left, right}
 
@@ -68,30 +69,6 @@ where_true false x y e = no e
 or_first : (a b : Bool) → a ≡ true → (a || b) ≡ true
 or_first true b h = refl
 or_first false b h = no h
-
--- WORDS THAT ARE KNOWN
-each_step : (k : ℕ) (f : ℕ → Bool) (m : ℕ) (b : Bool) → (m == k) ≡ b → f k ≡ true → (m < k → f m ≡ true) → m < suc k → f m ≡ true
-each_step k f m true e here rest low = subst (λ (x : ℕ). f x ≡ true) (sym (eqb-true m k e)) here
-each_step k f m false e here rest low = let apart : m ≢ k = differ m k e in rest (search (rules, arith))
-
-each_below : (k : ℕ) (f : ℕ → Bool) → all_below k f ≡ true → (m : ℕ) → m < k → f m ≡ true
-each_below zero f h m low = absurd (search (rules, arith))
-each_below (suc k) f h m low = each_step k f m (m == k) refl (left (f k) (all_below k f) h) (each_below k f (right (f k) (all_below k f) h) m) low
-
-agree_at : (k : Words) (u : List ℕ) → agree k u ≡ true → (p : ℕ) → p < 8 → fits_known (k p) (word_at u p) ≡ true
-agree_at k u = each_below 8 (λ p. fits_known (k p) (word_at u p))
-
-agree_by : (k : Words) (u : List ℕ) → ((p : ℕ) → p < 8 → fits_known (k p) (word_at u p) ≡ true) → agree k u ≡ true
-agree_by k u = below_all 8 (λ p. fits_known (k p) (word_at u p))
-
--- the home's, where they are known
-home_agrees : (home : Option (List ℕ)) (u : List ℕ) → ((v : List ℕ) → home ≡ Some v → u ≡ v) → agree (all_words home) u ≡ true
-home_agrees None u h = refl
-home_agrees (Some v) u h = subst (λ (x : List ℕ). agree (all_words (Some v)) x ≡ true) (sym (h v refl)) (agree_by (all_words (Some v)) v (λ p low. told_word (nat_lt p 8) (word_at v p)))
-  where
-    told_word : (b : Bool) (x : ℕ) → fits_known (if b then Some x else None) x ≡ true
-    told_word true x = same x
-    told_word false x = refl
 
 -- where all stores are listed none is done unseen
 listed_calm : (o : Observed) → o.public.stores ≡ AllListed → Calm o
@@ -186,22 +163,6 @@ plain_words z (Load word) loose any empty known words h = no (sym h)
 plain_words z (Store word) loose any empty known words h = no (sym h)
 plain_words z other loose any empty known words h = refl
 
--- what is no store, of a copy to which none may be done unseen, tells of none
-both_no : (h u y : Bool) → (h && u) ≡ false → (h && (u && y)) ≡ false
-both_no true true y e = no (sym e)
-both_no true false y e = refl
-both_no false u y e = refl
-
-empty_no : (h : Bool) (c : Copy) → (h && is_unique c) ≡ false → (h && same_copy c UniqueEmpty) ≡ false
-empty_no h UniqueEmpty e = e
-empty_no true other e = refl
-empty_no false other e = refl
-
-unopened : (z : Stores) (act : Act) (x : Bool) (d : Due) (k : Known) → stores act ≡ false → (hides_stores z d && is_unique (most k)) ≡ false → renews z act x d k ≡ false
-unopened z (Store word) x d k q e = no (sym q)
-unopened z (Load word) x d k q e = empty_no (hides_stores z d) (most k) e
-unopened z other x d k q e = both_no (hides_stores z d) (is_unique (most k)) (tells_dirty other || throws other x) e
-
 -- a store alone makes another value
 plain_store : (act : Act) → is_access act ≡ false → stores act ≡ false
 plain_store (Load word) h = refl
@@ -287,13 +248,8 @@ up_known laws w f last s plain safe k taken stands =
     words_by_open c calm true e = refl
     words_by_open c calm false e = k.words (old_current w f (plain_store f.act plain) e c) (old_calm w f (plain_store f.act plain) e calm)
 
--- words of which one is told, and the others are as known
-put_agrees : (k : Words) (u u' : List ℕ) (p v : ℕ) → word_at u' p ≡ v → ((q : ℕ) → (q == p) ≡ false → word_at u' q ≡ word_at u q) → agree k u ≡ true → agree (put p (Some v) k) u' ≡ true
-put_agrees k u u' p v own others known = agree_by (put p (Some v) k) u' (λ q low. go q low (q == p) refl)
-  where
-    go : (q : ℕ) → q < 8 → (b : Bool) → (q == p) ≡ b → fits_known (if b then Some v else k q) (word_at u' q) ≡ true
-    go q low true e = subst (λ (x : ℕ). (v == x) ≡ true) (sym (ap (word_at u') (eqb-true q p e) ∙ own)) (same v)
-    go q low false e = subst (λ (x : ℕ). fits_known (k q) x ≡ true) (sym (others q e)) (agree_at k u known q low)
+is_word : (u : List ℕ) (p v : ℕ) → word_at u p ≡ v → (word_at u p == v) ≡ true
+is_word u p v e = subst (λ (x : ℕ). (word_at u p == x) ≡ true) e (same (word_at u p))
 
 -- a load of a word of the value
 abbrev pub load_flit : Agent → Word → List ℕ → CacheFlit
@@ -316,7 +272,8 @@ load_known laws w agent word shown last low value safe k taken =
     words_by_open c calm true a e = refl
     words_by_open c calm false true e = k.words (old_current w (load_flit agent word shown) refl e c) (old_calm w (load_flit agent word shown) refl e calm)
     words_by_open c calm false false e =
-        put_agrees w.words last last word.place.0 word.value value (λ q other. refl) (k.words (old_current w (load_flit agent word shown) refl e c) (old_calm w (load_flit agent word shown) refl e calm))
+        put_agrees word.place.0 word.value w.words last (is_word last word.place.0 word.value value)
+        (λ q other. agree_at w.words last (k.words (old_current w (load_flit agent word shown) refl e c) (old_calm w (load_flit agent word shown) refl e calm)) q)
 
 -- a store, behind which the value has its word
 known_agrees : (o : Observed) (words : Words) (last : List ℕ) (s : LineState) → o.public.stores ≡ AllListed → Stands last s o → (o.current ≡ false → Calm o → agree words last ≡ true)
@@ -351,10 +308,11 @@ store_known w agent word shown last s low stands k taken =
         → agree (words_stored z word (may_be_empty (w.line.seen.told agent.0).told) (known_words (worded_in w))) (set last word.place.0 word.value) ≡ true
     words_stored_by Hidden e = refl
     words_stored_by AllListed e =
-        put_agrees (if may_be_empty (w.line.seen.told agent.0).told then no_words else known_words (worded_in w)) last (set last word.place.0 word.value) word.place.0 word.value
-        (get_or-set_same last word.place.0 word.value 0 (subst (λ (n : ℕ). word.place.0 < n) (sym k.long) (is_low word.place.0 8 low)))
-        (λ q other. get_or-set_other last word.place.0 q word.value 0 (eqb-false q word.place.0 other))
-        (empty_agrees (may_be_empty (w.line.seen.told agent.0).told) (known_words (worded_in w)) last (known_agrees w.line.seen w.words last s e stands k.words))
+        let known : Words = if may_be_empty (w.line.seen.told agent.0).told then no_words else known_words (worded_in w) in
+        let agreed : agree known last ≡ true = empty_agrees (may_be_empty (w.line.seen.told agent.0).told) (known_words (worded_in w)) last (known_agrees w.line.seen w.words last s e stands k.words) in
+        put_agrees word.place.0 word.value known (set last word.place.0 word.value)
+        (is_word (set last word.place.0 word.value) word.place.0 word.value (get_or-set_same last word.place.0 word.value 0 (subst (λ (n : ℕ). word.place.0 < n) (sym k.long) (is_low word.place.0 8 low))))
+        (λ q other below. subst (λ (x : ℕ). fits_known (known q) x ≡ true) (sym (get_or-set_other last word.place.0 q word.value 0 other)) (agree_at known last agreed q below))
 
 -- a load that counts as a store, where stores may be hidden: the value stays
 pub counted_known : (w : WatchedWords) (agent : Agent) (word : Word) (shown last : List ℕ) → nat_lt word.place.0 8 ≡ true → are_hidden w.line.seen.public.stores ≡ true → w.line.seen.current ≡ true → Knows last w

@@ -22,9 +22,9 @@ mod Since
 mod Values
 mod Sent
 mod Legal
-mod ListedWords
+pub mod ListedWords
 mod ListedKnown
-mod WordedSent
+pub mod WordedSent
 mod WordedGiven
 mod WordedCalm
 mod ListedBefore

@@ -30,7 +30,7 @@ where_so true b h = h refl
 where_so false b h = refl
 
 -- words of which one is told, and the others are as known
-put_agrees : (p v : ℕ) (k : Words) (u : List ℕ) → (word_at u p == v) ≡ true → ((q : ℕ) → q ≢ p → q < 8 → fits_known (k q) (word_at u q) ≡ true) → agree (put p (Some v) k) u ≡ true
+pub put_agrees : (p v : ℕ) (k : Words) (u : List ℕ) → (word_at u p == v) ≡ true → ((q : ℕ) → q ≢ p → q < 8 → fits_known (k q) (word_at u q) ≡ true) → agree (put p (Some v) k) u ≡ true
 put_agrees p v k u h rest = agree_by (put p (Some v) k) u (split (λ q. q < 8 → fits_known (put p (Some v) k q) (word_at u q) ≡ true) p
     (λ _. subst (λ x. fits_known x (word_at u p) ≡ true) (sym (here p (Some v) k)) (same_back (word_at u p) v h))
     (λ q d lq. subst (λ x. fits_known x (word_at u q) ≡ true) (sym (there p (Some v) k q d)) (rest q d lq)))

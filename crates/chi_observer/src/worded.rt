@@ -1,9 +1,9 @@
 //! The observer of one line that knows words: of the value last stored those that loads and stores told.
 
-ghost use Rattle.std.specs.Prelude.{◌≡◌, ◌<◌, ◌||◌, IfErr, OnErr, OnOk, Some, false, if◌then◌else◌, is_ok, not, true};
+ghost use Rattle.std.specs.Prelude.{◌≡◌, ◌<◌, ◌||◌, IfErr, IfSome, None, OnErr, OnOk, Some, false, if◌then◌else◌, is_ok, not, true};
 ghost use Rattle.chi_observer.specs.Counted.{counted};
 ghost use Rattle.chi_observer.specs.Rules.{has_data};
-ghost use Rattle.chi_observer.specs.Worded.{agree, all_words, copy_words, fits_known, fits_load, fits_words, is_open, is_placed, known_words, may_be_empty, may_read_any, no_words, renewed, words_after, words_granted, words_stored};
+ghost use Rattle.chi_observer.specs.Worded.{agree, all_words, copy_words, fits_known, fits_load, fits_words, is_open, is_placed, known_words, may_be_empty, may_read_any, no_words, renewed, words_after, words_stored};
 ghost use Rattle.chi_observer.specs.WordedLines.{is_taken_worded, is_worded_reason, nothing_worded, takes_by_word, watch_by_word, watch_worded, worded_in, words_of, words_watched};
 ghost use Rattle.chi_observer.specs.Lines.{agent_of, watched};
 ghost use Rattle.chi_observer.specs.Worlds.{put};
@@ -135,6 +135,30 @@ impl WordedObserver {
         ensures reason { IfErr result
             (λ reason. is_worded_reason (words_watched self.old) (counted (watched self.old.seen) flit) reason ≡ true) }
     {
+        match flit {
+            Flit::Up(sent) => match sent.act {
+                Act::Load(_) => self.take_load(flit),
+                Act::Request(_)
+                | Act::Resend(_)
+                | Act::SnpResp(_)
+                | Act::CompAck
+                | Act::CopyBackWrData(_)
+                | Act::NonCopyBackWrData
+                | Act::Store(_) => self.take_sent(sent),
+            },
+            Flit::Down(given) => self.take_given(given),
+        }
+    }
+
+    /// Takes a load, or the store as which it counts.
+    fn take_load(&mut self, flit: Flit) -> Result<(), Reason>
+        ensures taken { is_ok result ≡ takes_by_word (words_watched self.old) flit }
+        ensures after { OnOk result
+            (words_watched self.new ≡ watch_by_word (words_watched self.old) flit) }
+        ensures kept { OnErr result (self.new ≡ self.old) }
+        ensures reason { IfErr result
+            (λ reason. is_worded_reason (words_watched self.old) (counted (watched self.old.seen) flit) reason ≡ true) }
+    {
         let counted = self.seen.counted(flit);
         self.take_itself(counted)
     }
@@ -190,9 +214,11 @@ impl WordedObserver {
         if !self.fits(sent) {
             return Err(self.refusal(sent));
         }
-        let words = self.words_after(sent);
+        let changed = self.words_after(sent);
         self.seen.take_itself(Flit::Up(sent))?;
-        self.words = words;
+        if let Some(words) = changed {
+            self.words = words;
+        }
         Ok(())
     }
 
@@ -205,9 +231,11 @@ impl WordedObserver {
         ensures reason { IfErr result
             (λ reason. is_worded_reason (words_watched self.old) (Down given) reason ≡ true) }
     {
-        let words = self.words_granted(given);
+        let made = makes(given.grant, self.agent(given.agent).due);
         self.seen.take_itself(Flit::Down(given))?;
-        self.words = words;
+        if made {
+            self.words = KnownWords::none();
+        }
         Ok(())
     }
 
@@ -302,13 +330,16 @@ impl WordedObserver {
         Reason::OtherWords
     }
 
-    /// The words that are known behind a flit of a cache.
-    fn words_after(&self, sent: CacheFlit) -> KnownWords
+    /// The words that are known behind a flit of a cache; `None` where they are those that were.
+    fn words_after(&self, sent: CacheFlit) -> Option<KnownWords>
         requires { is_placed sent.act ≡ true }
-        ensures { words_of result ≡ words_after sent (worded_in (words_watched self.now)) }
+        ensures kept { result ≡ None
+            → words_of self.now.words ≡ words_after sent (worded_in (words_watched self.now)) }
+        ensures changed { IfSome result
+            (λ words. words_of words ≡ words_after sent (worded_in (words_watched self.now))) }
     {
         match sent.act {
-            Act::Store(word) => self.words_stored(sent.agent, word),
+            Act::Store(word) => Some(self.words_stored(sent.agent, word)),
             Act::Load(word) => self.words_loaded(sent, word),
             Act::Request(_)
             | Act::Resend(_)
@@ -319,31 +350,38 @@ impl WordedObserver {
         }
     }
 
-    /// Those behind a flit that is neither a load nor a store: as before, and none where the copy may be stored to unseen.
-    fn words_but(&self, sent: CacheFlit) -> KnownWords
-        ensures { words_of result ≡ (if is_open (worded_in (words_watched self.now)) sent then no_words
-            else words_of self.now.words) }
+    /// Those behind a flit that is neither a load nor a store: none where the copy may be stored to unseen.
+    fn words_but(&self, sent: CacheFlit) -> Option<KnownWords>
+        ensures kept { result ≡ None → is_open (worded_in (words_watched self.now)) sent ≡ false }
+        ensures changed { IfSome result
+            (λ words. words_of words ≡ (if is_open (worded_in (words_watched self.now)) sent then no_words
+            else words_of self.now.words)) }
     {
         if self.is_open(sent) {
-            KnownWords::none()
+            Some(KnownWords::none())
         } else {
-            self.words
+            None
         }
     }
 
     /// Those behind a load.
-    fn words_loaded(&self, sent: CacheFlit, word: Word) -> KnownWords
+    fn words_loaded(&self, sent: CacheFlit, word: Word) -> Option<KnownWords>
         requires { word.place.0 < 8 }
-        ensures { words_of result ≡ (if is_open (worded_in (words_watched self.now)) sent then no_words
+        ensures kept { result ≡ None → words_of self.now.words
+            ≡ (if is_open (worded_in (words_watched self.now)) sent then no_words
             else (if may_read_any (worded_in (words_watched self.now)) sent then words_of self.now.words
             else put word.place.0 (Some word.value) (words_of self.now.words))) }
+        ensures changed { IfSome result (λ words. words_of words
+            ≡ (if is_open (worded_in (words_watched self.now)) sent then no_words
+            else (if may_read_any (worded_in (words_watched self.now)) sent then words_of self.now.words
+            else put word.place.0 (Some word.value) (words_of self.now.words)))) }
     {
         if self.is_open(sent) {
-            KnownWords::none()
+            Some(KnownWords::none())
         } else if self.may_read_any(sent) {
-            self.words
+            None
         } else {
-            self.words.with(word)
+            Some(self.words.with(word))
         }
     }
 
@@ -370,17 +408,6 @@ impl WordedObserver {
             KnownWords::none()
         } else {
             self.known_words()
-        }
-    }
-
-    /// The words that are known behind a flit of the home: its completion of a MakeUnique leaves any to the agent.
-    fn words_granted(&self, given: HomeFlit) -> KnownWords
-        ensures { words_of result ≡ words_granted given (worded_in (words_watched self.now)) }
-    {
-        if makes(given.grant, self.agent(given.agent).due) {
-            KnownWords::none()
-        } else {
-            self.words
         }
     }
 }
