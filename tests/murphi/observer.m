@@ -291,9 +291,11 @@ end;
 function may_load(n: agent; v: value): boolean;
 begin return may_load_any(n) | ((!current | fits(v)) & fits_stored(v)); end;
 
--- Which tells of that store where it isn't the home's.
+-- Which tells of that store where it isn't the known one.
 function tells_store(n: agent; v: value): boolean;
-begin return may_load_any(n) & has_data(strongest(lanes[n].told)) & current & !fits(v); end;
+begin
+  return may_load_any(n) & has_data(strongest(lanes[n].told)) & (current ? !fits(v) : !fits_stored(v));
+end;
 
 function may_be_stored(m: agent; tells: boolean): boolean;
 begin return hidden & !tells & may_be_free(lanes[m].due) & is_unique(strongest(lanes[m].told)); end;
@@ -358,10 +360,14 @@ begin
   thrown := false;
 end;
 
--- ("Words that are known": none behind a flit of a copy to which a store may be done that nobody sees)
-procedure forget_word(n: agent);
+-- ("Words that are known": none behind a flit that tells of a store, nor of a copy to which one may be done that nobody sees,
+-- but where a request was retried, and the flit isn't another one)
+procedure forget_word(n: agent; renewed: boolean; issues: boolean);
 begin
-  if hidden & may_be_free(lanes[n].due) & is_unique(strongest(lanes[n].told)) then stored := unknown; end;
+  if renewed
+      | (hidden & may_be_free(lanes[n].due) & is_unique(strongest(lanes[n].told)) & (lanes[n].due != Resending | issues)) then
+    stored := unknown;
+  end;
 end;
 
 procedure await(n: agent; d: due; k: kind);
@@ -409,7 +415,7 @@ ruleset n: agent; k: kind do
   begin
     assert "a request is taken"
       may_be_free(lanes[n].due) & exists c: copy do may_be_later(lanes[n].told, c) & may_issue(k, c) end;
-    forget_word(n);
+    forget_word(n, false, true);
     if hidden & (k = WriteBackFull | k = WriteCleanFull) & is_unique(strongest(lanes[n].told)) then current := false; end;
     lanes[n].told := told_issued(k, lanes[n].told);
     if k = Evict then hold(n, I, 0); end;
@@ -424,7 +430,6 @@ ruleset n: agent do
   ==>
   begin
     assert "a request is taken again" !lanes[n].surely;
-    forget_word(n);
     await(n, SureCompletion, lanes[n].kind);
     follow(n, true, true);
   end;
@@ -444,7 +449,7 @@ ruleset n: agent; a: answer; v: value do
     renewed := hidden & may_be_free(lanes[n].due) & is_unique(strongest(lanes[n].told)) & (tells_dirty(a) | throws);
     others := shows(a) & current & !fits(lanes[n].word);
     assert "an answer is taken" may_give(a, n) & (!others | renewed) & (!shows(a) | renewed | fits_stored(lanes[n].word));
-    forget_word(n);
+    forget_word(n, renewed, false);
     if hidden & lanes[n].due = Resending & tells_dirty(a) & is_unique(strongest(lanes[n].told))
         & (others | lanes[n].told != ToldUD) then
       lanes[n].surely := true;
@@ -533,13 +538,14 @@ ruleset n: agent do
     assert "a load is taken"
       (has_data(strongest(lanes[n].told)) | (hidden & may_be_free(lanes[n].due) & is_unique(strongest(lanes[n].told))))
       & may_load(n, lanes[n].word);
-    if !current & !may_load_any(n) then stored := lanes[n].word; end;
-    forget_word(n);
     if strongest(lanes[n].told) = UCE | tells_store(n, lanes[n].word) then
       current := false;
+      stored := unknown;
       if lanes[n].due = Resending then lanes[n].surely := true; end;
       lanes[n].told := ToldUD;
     else
+      if !current & !(may_load_any(n) & lanes[n].due = Acknowledgement) then stored := lanes[n].word; end;
+      forget_word(n, false, false);
       lanes[n].told := told_as(strongest(lanes[n].told));
     end;
     follow(n, false, false);

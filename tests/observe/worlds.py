@@ -7,13 +7,12 @@ own copy, it is safe in every world with that value. Nothing of what the observe
 
 A flit is a tuple: ("cache" or "home", the agent, what it does, and with which words). A load and a store are flits of a
 cache with a place in the line and a word. A load leaves the worlds whose copy has its word. Where stores may be hidden it is
-of one place, which has another word in each value, and other worlds are left too: where a store that nobody saw may be done,
-if only behind the CompAck, those that it makes; and of a dirty copy whose request was retried those of any value, if some has
-the word. What is known of such a copy is forgotten where its request is retried, and what a store writes isn't learnt. Where
-all stores are listed no hidden step is a store, and a value is made of its words, two for
-each place: a store makes its word, and keeps those of the other places where the copy has data. Besides these a value has
-a part of two that no load and no store names, of which flits show the first alone: behind a store it is any, so only data
-show that the home has the value.
+of one place, which has another word in each value; of a unique copy whose CompAck is due it leaves besides those that a
+store behind that makes. What a store writes isn't learnt then, nor that an answer tells of a cancel by other words than
+loads did. Where all stores are listed no hidden step is a store, and a value is made of its words, two for each place: a
+store makes its word, and keeps those of the other places where the copy has data. Besides these a value has a part of two
+that no load and no store names, of which flits show the first alone: behind a store it is any, so only data show that the
+home has the value.
 """
 
 from collections import defaultdict
@@ -134,7 +133,7 @@ class Line:
         self.agents, self.listed = agents, listed
         self.places = listed or 1
         self.values = 2 ** listed if listed else values
-        self.all_values = range(2 * self.values if listed else values)
+        self.all_values = range(2 * self.values)
         self.snoops, self.duty = (None,) * agents, False
         opening = (World(("I",) * agents, value, value, (None,) * agents, False, (0,) * agents) for value in range(self.values))
         self.worlds = self.closed(map(noticed, opening))
@@ -173,13 +172,23 @@ class Line:
 
     def answer(self, world, agent, form, value):
         copy, left, snoop = world.copies[agent], form.split("_")[1], self.snoops[agent]
-        if not snoop or copy == WRITING or form not in ANSWERS[snoop][copy].split() or value not in (None, world.last):
+        if not snoop or copy == WRITING or form not in ANSWERS[snoop][copy].split():
             return None
+        if value not in (None, world.last):
+            if not self.may_show_any(world, agent):
+                return None
+            world = world._replace(last=value)
         if copy == "UCE" and left == "UC":
             left = "UCE"
         lost = snoop == "SnpMakeInvalid" and copy in ("UD", "SD") and world.home != world.last
         return world._replace(copies=put(world.copies, agent, left), home=world.home if value is None else value,
                               void=world.void or lost)
+
+    def may_show_any(self, world, agent):
+        """Whether an answer of other words isn't held against a request that was retried: data haven't shown the value."""
+        request = world.requests[agent]
+        waits = request and request.phase == "retried" and world.copies[agent] == "UD"
+        return waits and not self.listed and world.last >= self.values
 
     def write(self, world, agent, form, value):
         request, copy = world.requests[agent], world.copies[agent]
@@ -200,19 +209,17 @@ class Line:
     # -- loads and stores: of a store a world for each value that it may make
 
     def word_at(self, value, place):
-        return value >> place & 1 if self.listed else value
+        return value >> place & 1 if self.listed else value % self.values
 
     def loaded(self, agent, place, word):
         """The worlds behind a load, before hidden steps; none where it isn't legal."""
-        holding = [it for it in self.worlds if it.copies[agent] in ("SC", "SD", "UC", "UD")]
+        holding = {it for it in self.worlds if it.copies[agent] in ("SC", "SD", "UC", "UD")}
         reading = {it for it in holding if self.word_at(it.last, place) == word}
         if self.listed:
             return reading
-        open_to_stores = [it for it in holding if it.copies[agent] in ("UC", "UD")
-                          and (not it.requests[agent] or it.requests[agent].phase == "ack")]
-        stored = {made for it in open_to_stores if it not in reading for made in self.store(it, agent, place, word)}
-        waiting = {it for it in holding if it.copies[agent] == "UD" and it.requests[agent] and it.requests[agent].phase == "retried"}
-        return reading | stored | (waiting if waiting & reading else set())
+        later = [it for it in holding - reading if it.copies[agent] in ("UC", "UD")
+                 and it.requests[agent] and it.requests[agent].phase == "ack"]
+        return reading | {made for it in later for made in self.store(it, agent, place, word)}
 
     def store(self, world, agent, place, word):
         request, copy = world.requests[agent], world.copies[agent]
@@ -233,10 +240,7 @@ class Line:
         request = world.requests[agent]
         if not request or request.phase != "sent" or not request.first:
             return None
-        retried = world._replace(requests=put(world.requests, agent, Request(request.kind, "retried", True)))
-        if self.listed or world.copies[agent] != "UD":
-            return [retried]
-        return [retried._replace(last=value) for value in self.all_values]
+        return [world._replace(requests=put(world.requests, agent, Request(request.kind, "retried", True)))]
 
     def snoop(self, world, agent, snoop):
         throws = any(it and at != agent and it.phase == "sent" and it.kind in THROWING

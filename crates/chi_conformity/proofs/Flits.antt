@@ -21,7 +21,6 @@ use Rattle.chi_observer.specs.Worlds.{Sends, World, put}
 use Rattle.chi_observer.specs.Observed.{Meaning, Observed, differs, next, takes}
 use Rattle.chi_observer.specs.Counted.{CountedLoadsAreTaken, CountedLoadsLead}
 use Rattle.chi_observer.specs.Laws.{MeaningIsClosed, CacheFlitsAreTaken, CacheFlitsLead, CacheFlitsTellTheValue, CacheFlitsKeepSound, HomeFlitsKeepSound, HomeFlitsLead}
-use Rattle.chi_observer.specs.WordedLaws.{WordsAreHeldCalm}
 use Rattle.chi_conformity.specs.Seen.{snoop_seen}
 use Rattle.chi_conformity.proofs.Held.{Beside, Stands, held, is_given_up, words_held, world_of}
 use Rattle.chi_conformity.proofs.Put.{differ, here, there}
@@ -32,7 +31,6 @@ pub record Laws : Type 0 where
   pub taken : CacheFlitsAreTaken
   pub leads : CacheFlitsLead
   pub tells : CacheFlitsTellTheValue
-  pub calm : WordsAreHeldCalm
   pub kept : CacheFlitsKeepSound
   pub counted_taken : CountedLoadsAreTaken
   pub counted_lead : CountedLoadsLead

@@ -36,20 +36,19 @@ use Rattle.chi_observer.specs.Copies.{Held, holds_data}
 use Rattle.chi_observer.specs.Copies.Copy.{Invalid}
 use Rattle.chi_observer.specs.declared.flits.Flit.{Flit}
 use Rattle.chi_observer.specs.declared.flits.Stores.{Stores}
-use Rattle.chi_observer.specs.Lines.{Watched, nothing_watched}
-use Rattle.chi_observer.specs.Counted.{takes_counted, watch_counted}
-use Rattle.chi_observer.specs.WordedLines.{WatchedWords, nothing_worded, takes_by_word, watch_by_word}
+use Rattle.chi_observer.specs.Lines.{is_taken, watch}
+use Rattle.chi_observer.specs.WordedLines.{WatchedWords, counted_by_word, nothing_worded, watch_by_word}
 use Rattle.chi_observer.specs.Rules.{plain}
 use Rattle.chi_observer.specs.Runs.{nothing_told}
 use Rattle.chi_observer.specs.Tables.{reach}
-use Rattle.chi_conformity.specs.Conformity.{AreTakenBy, SlicesConform, SlicesConformByWord, done_seen, run_seen}
+use Rattle.chi_conformity.specs.Conformity.{AreTaken, AreTakenByWord, SlicesConform, SlicesConformByWord, done_seen, run_seen}
 use Rattle.chi_conformity.specs.Seen.{snoop_seen, step_seen}
 use Rattle.chi_conformity.proofs.Held.{DueIs, Stands, held, held_of}
 use Rattle.chi_conformity.proofs.Flits.{Laws}
 use Rattle.chi_conformity.proofs.Put.{differ}
-use Rattle.chi_conformity.proofs.Counted.{step_follows_by_word}
+use Rattle.chi_conformity.proofs.Counted.{TakenAlike, step_follows_by_word}
 use Rattle.chi_conformity.proofs.Words.{StandsByWord}
-use Rattle.chi_conformity.proofs.Taken.{FollowsBy, taken_more}
+use Rattle.chi_conformity.proofs.Taken.{AllTaken, FollowsBy, taken_more}
 use Rattle.chi_conformity.proofs.Told.{left, no}
 
 -- THE VALUES LAST STORED
@@ -70,18 +69,18 @@ last_after s action l kept may =
     last_recorded s.journal (entry_of s action) l (fits_journal s.journal (entry_of s action) (entry_fits s action kept may).1 kept.journal.words)
 
 -- AN ACTION: what stands between a line and what is kept of it leads from step to step
-module _ {W : Type 0} (takes : W → Flit → Bool) (behind : W → Flit → W) (Stand : List ℕ → LineState → W → Type 0) where
+module _ {W : Type 0} (Takes : W → Flit → Type 0) (behind : W → Flit → W) (Stand : List ℕ → LineState → W → Type 0) where
   abbrev StepsFollow : Type 0
   StepsFollow = (c : Conditions) (last : List ℕ) (s : LineState) (agent : Agent) (line : Line) (step : Step) (w : W) → agent.0 < 8 → is_step_in_range step ≡ true
       → step_refusal c s agent step ≡ None → (c.slot_used ≡ false → names_used_slot s agent.0 step ≡ false) → Kept last s → Stand last s w
-      → FollowsBy takes behind (Stand (last_with line.0 last (step_record s agent line step)) (after_step c.profile s agent step)) w (step_seen c.profile s agent step)
+      → FollowsBy Takes behind (Stand (last_with line.0 last (step_record s agent line step)) (after_step c.profile s agent step)) w (step_seen c.profile s agent step)
 
   abbrev Goes : List Action → ℕ → Type 0
-  Goes actions l = (s : SliceState) (w : W) → SliceKept s → is_line_in_range s l ≡ true → Stand (last_of s l) (line s l) w → AreTakenBy takes behind w (run_seen s actions l)
+  Goes actions l = (s : SliceState) (w : W) → SliceKept s → is_line_in_range s l ≡ true → Stand (last_of s l) (line s l) w → AllTaken Takes behind w (run_seen s actions l)
 
   -- on the line
   here_taken : StepsFollow → (s : SliceState) (action : Action) (actions : List Action) (l : ℕ) (w : W) → SliceKept s → Allowed s action → is_line_in_range s l ≡ true
-      → Stand (last_of s l) (line s l) w → Goes actions l → action.line.0 ≡ l → AreTakenBy takes behind w (done_seen None s action ++ run_seen (slice_after s action) actions l)
+      → Stand (last_of s l) (line s l) w → Goes actions l → action.line.0 ≡ l → AllTaken Takes behind w (done_seen None s action ++ run_seen (slice_after s action) actions l)
   here_taken steps s action actions l w kept may here stands goes same =
       let at : ℕ = action.line.0 in
       let s' : SliceState = slice_after s action in
@@ -90,16 +89,16 @@ module _ {W : Type 0} (takes : W → Flit → Bool) (behind : W → Flit → W) 
       let stood : Stand (last_of s at) (line s at) w = subst (λ j. Stand (last_of s j) (line s j) w) (sym same) stands in
       let last_is : last_of s' at ≡ last_with at (last_of s at) (entry_of s action) = last_after s action at kept may in
       let line_is : line s' at ≡ after s.config.profile (line s at) action = line_in_row-with_line s (row_of_line s at) (after s.config.profile (line s at) action) inside.row kept in
-      let follows : FollowsBy takes behind (Stand (last_of s' at) (line s' at)) w flits =
-      subst (λ v. FollowsBy takes behind (Stand v (line s' at)) w flits) (sym last_is)
-      (subst (λ v. FollowsBy takes behind (Stand (last_with at (last_of s at) (entry_of s action)) v) w flits) (sym line_is)
+      let follows : FollowsBy Takes behind (Stand (last_of s' at) (line s' at)) w flits =
+      subst (λ v. FollowsBy Takes behind (Stand v (line s' at)) w flits) (sym last_is)
+      (subst (λ v. FollowsBy Takes behind (Stand (last_with at (last_of s at) (entry_of s action)) v) w flits) (sym line_is)
       (steps (conditions_of s action) (last_of s at) (line s at) action.agent action.line action.step w inside.agent inside.step may.by_line (λ free. names_unused s action kept may) (kept.lines at inside.line) stood)) in
-      taken_more takes behind (Stand (last_of s' at) (line s' at)) w flits (run_seen s' actions l) follows
+      taken_more Takes behind (Stand (last_of s' at) (line s' at)) w flits (run_seen s' actions l) follows
       (λ w' after. goes s' w' (kept_acted s action kept may) here (subst (λ j. Stand (last_of s' j) (line s' j) w') same after))
 
   -- on another
   elsewhere_taken : (s : SliceState) (action : Action) (actions : List Action) (l : ℕ) (w : W) → SliceKept s → Allowed s action → is_line_in_range s l ≡ true
-      → Stand (last_of s l) (line s l) w → Goes actions l → (action.line.0 == l) ≡ false → AreTakenBy takes behind w (run_seen (slice_after s action) actions l)
+      → Stand (last_of s l) (line s l) w → Goes actions l → (action.line.0 == l) ≡ false → AllTaken Takes behind w (run_seen (slice_after s action) actions l)
   elsewhere_taken s action actions l w kept may here stands goes apart =
       let s' : SliceState = slice_after s action in
       let other : l ≢ action.line.0 = λ (e : l ≡ action.line.0). differ action.line.0 l apart (sym e) in
@@ -110,7 +109,7 @@ module _ {W : Type 0} (takes : W → Flit → Bool) (behind : W → Flit → W) 
 
   action_taken : StepsFollow → (s : SliceState) (action : Action) (actions : List Action) (l : ℕ) (w : W) → SliceKept s → is_line_in_range s l ≡ true
       → Stand (last_of s l) (line s l) w → Goes actions l → (r : Option Refusal) → action_refusal s action ≡ r → (b : Bool) → (action.line.0 == l) ≡ b
-      → AreTakenBy takes behind w ((if b then done_seen r s action else []) ++ run_seen (tried_as r s action) actions l)
+      → AllTaken Takes behind w ((if b then done_seen r s action else []) ++ run_seen (tried_as r s action) actions l)
   action_taken steps s action actions l w kept here stands goes None may true same =
       here_taken steps s action actions l w kept (allowed s action may) here stands goes (eqb-true action.line.0 l same)
   action_taken steps s action actions l w kept here stands goes None may false apart =
@@ -174,20 +173,36 @@ words_long false lines l low = ap (λ (xs : List ℕ). length xs) (get_or-replic
 opening_long : (config : Sizes) (index l : ℕ) → is_line_in_range (opening_slice config index) l ≡ true → length (last_of (opening_slice config index) l) ≡ 8
 opening_long config index l here = words_long (nat_lt 0 config.journal) config.lines l (inside (opening_slice config index) l here).low
 
-pub conform_by_word : Laws → SlicesConformByWord
-conform_by_word laws z config index actions l limits within here =
-    run_taken takes_by_word watch_by_word StandsByWord
+-- EACH RUN
+abbrev AllAlike : WatchedWords → List Flit → Type 0
+AllAlike w flits = AllTaken TakenAlike watch_by_word w flits
+
+run_alike : Laws → (z : Stores) (config : Sizes) (index : ℕ) (actions : List Action) (l : ℕ) → are_in_limits config ≡ true → index < config.slices
+    → is_line_in_range (opening_slice config index) l ≡ true → AllAlike (nothing_worded z) (run_seen (opening_slice config index) actions l)
+run_alike laws z config index actions l limits within here =
+    run_taken TakenAlike watch_by_word StandsByWord
     (step_follows_by_word laws)
     actions l (opening_slice config index) (nothing_worded z) (opening_kept config index limits within) here (
       opening_line_stands z config index l limits within here,
-      record { long = opening_long config index l here; words = λ c calm. no (sym c) },
+      record { long = opening_long config index l here; words = λ c. no (sym c) },
     )
 
+taken_by_word : (flits : List Flit) (w : WatchedWords) → AllAlike w flits → AreTakenByWord w flits
+taken_by_word [] w taken = tt
+taken_by_word (flit ∷ flits) w taken = (taken.0.0, taken_by_word flits (watch_by_word w flit) taken.1)
+
+pub conform_by_word : Laws → SlicesConformByWord
+conform_by_word laws z config index actions l limits within here =
+    taken_by_word (run_seen (opening_slice config index) actions l) (nothing_worded z) (run_alike laws z config index actions l limits within here)
+
 -- who keeps no words takes it too
-taken_besides : (flits : List Flit) (w : WatchedWords) → AreTakenBy takes_by_word watch_by_word w flits → AreTakenBy takes_counted watch_counted w.line flits
+taken_besides : (flits : List Flit) (w : WatchedWords) → AllAlike w flits → AreTaken w.line flits
 taken_besides [] w taken = tt
-taken_besides (flit ∷ flits) w taken = (left (takes_counted w.line flit) _ taken.0, taken_besides flits (watch_by_word w flit) taken.1)
+taken_besides (flit ∷ flits) w taken = (
+  ap (is_taken w.line) (sym taken.0.1) ∙ left (is_taken w.line (counted_by_word w flit)) _ taken.0.0,
+  subst (λ (e : Flit). AreTaken (watch w.line e) flits) taken.0.1 (taken_besides flits (watch_by_word w flit) taken.1),
+)
 
 pub conform : Laws → SlicesConform
 conform laws z config index actions l limits within here =
-    taken_besides (run_seen (opening_slice config index) actions l) (nothing_worded z) (conform_by_word laws z config index actions l limits within here)
+    taken_besides (run_seen (opening_slice config index) actions l) (nothing_worded z) (run_alike laws z config index actions l limits within here)

@@ -2,7 +2,7 @@
 
 ghost use Rattle.chi_conformity.specs.Conformity.{SlicesConform, SlicesConformByWord};
 
-use chi_observer::{cache_flits, counted_loads, home_flits, meaning, worded_flits};
+use chi_observer::{cache_flits, counted_loads, home_flits, meaning};
 
 /// The law that an observer of a line takes each flit that the actions of a slice send there, in the order in which they
 /// are sent, and each load and store there, whatever the actions are, whether stores may be hidden or all are listed; and that
@@ -15,6 +15,5 @@ pub fn a_slice_conforms()
     meaning();
     cache_flits();
     counted_loads();
-    worded_flits();
     home_flits();
 }

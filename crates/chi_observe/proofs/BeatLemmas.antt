@@ -17,8 +17,8 @@ use Rattle.chi_observer.specs.Worlds.{all_below}
 use Rattle.chi_observer.specs.Worded.{Words, agree, fits_known}
 use Rattle.chi_observer.specs.WordedLines.{WatchedWords, takes_by_word, watch_by_word}
 use Rattle.chi_observer.specs.Observed.{fits}
-use Rattle.chi_observer.specs.Lines.{Watched}
-use Rattle.chi_observer.specs.Counted.{may_tell, may_tell_store, takes_counted}
+use Rattle.chi_observer.specs.Lines.{Watched, is_taken}
+use Rattle.chi_observer.specs.Counted.{may_tell, may_tell_store}
 use Rattle.chi_observer.specs.Wanted.{AnyWordsAreTaken, FreeWordsAreTaken, KnownWordsAreTaken, WordlessFlitsAreApart, flit_with, flit_words, homed, is_listed_store, is_wordless, reads_home, tells_cancelled, wanted, wanted_given, wanted_if, wanted_sent, wanted_words, with_home}
 use Rattle.chi_observer.proofs.DataInBeats.{either_way, wanted_as}
 use Rattle.chi_observe.specs.declared.ids.Later.{Later}
@@ -495,7 +495,7 @@ left_unknown w e lacking = but_known (wanted_words w e) lacking
 
 -- the first beat is taken, and all of the data
 abbrev takes_first : WatchedWords → Flit → List Bool → Bool
-takes_first w e lacking = takes_counted w.line e && agree (wanted_words w e) (first_words w e lacking)
+takes_first w e lacking = is_taken w.line e && agree (wanted_words w e) (first_words w e lacking)
 
 takes_begin : AnyWordsAreTaken → (before : Before) (own home : NodeId) (w : WatchedWords) (m : Marked) (n : ℕ) (e : Flit) (lacking : List Bool) → wanted w.line e ≡ wants.Any
     → takes_line before (judged_line own w m) home n (news.Begun e lacking) ≡ (own.0 == home.0 && takes_first w e lacking)
@@ -524,7 +524,7 @@ begin_runs any before own w m n e lacking is q taken =
       hidden = same_mode w e ∙ q;
     }
 
-whole_runs : AnyWordsAreTaken → (before : Before) (own : NodeId) (w : WatchedWords) (m : Marked) (n : ℕ) (e : Flit) (v : List ℕ) → wanted w.line e ≡ wants.Any → hides w ≡ true → (takes_counted w.line e && agree (wanted_words w e) v) ≡ true
+whole_runs : AnyWordsAreTaken → (before : Before) (own : NodeId) (w : WatchedWords) (m : Marked) (n : ℕ) (e : Flit) (v : List ℕ) → wanted w.line e ≡ wants.Any → hides w ≡ true → (is_taken w.line e && agree (wanted_words w e) v) ≡ true
     → Runs (line_next before (judged_line own w m) n (news.Flit (Some (flit_with e v)))) own lacks.Nothing v (watch_by_word w e)
 unfolding line_next
 whole_runs any before own w m n e v is q taken =
@@ -718,8 +718,8 @@ takes_words : AnyWordsAreTaken → (w : WatchedWords) (e : Flit) (lacking : List
 takes_words any w e lacking words is own =
     let d = is_data w.line e (λ none. any_is_wanted (sym is ∙ none)) in
     (any w words e is).0
-    ∙ (ap (λ (b : Bool). takes_counted w.line e && b) (sym (last_agrees w e lacking words d own))
-    ∙ grouped (takes_counted w.line e) (agree (wanted_words w e) (first_words w e lacking)) (agrees_last w e lacking words))
+    ∙ (ap (λ (b : Bool). is_taken w.line e && b) (sym (last_agrees w e lacking words d own))
+    ∙ grouped (is_taken w.line e) (agree (wanted_words w e) (first_words w e lacking)) (agrees_last w e lacking words))
 
 begun_alike : WordlessFlitsAreApart → AnyWordsAreTaken → (before : Before) (own home : NodeId) (w : WatchedWords) (m : Marked) (n k : ℕ) (e : Flit) (lacking : List Bool) (words : List ℕ) (ps : List (ℕ × Flit)) (t a : Bool)
     → wanted w.line e ≡ wants.Any → words_with (flit_words e) words lacking ≡ words → hides w ≡ true → all_wordless ps ≡ true → takes_first w e lacking ≡ t → agrees_last w e lacking words ≡ a

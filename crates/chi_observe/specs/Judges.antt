@@ -4,14 +4,12 @@
 use Rattle.std.specs.Prelude.{ℕ, zero, suc, Bool, true, false, not, List, Result, Ok, Err, nat_lt, if◌then◌else◌}
 use Rattle.std.specs.List.{slice_index_or}
 use Rattle.chi_observer.specs.declared.flits.Flit.{Flit}
-use Rattle.chi_observer.specs.declared.flits.Flit.TheVariants.{Up}
 use Rattle.chi_observer.specs.declared.flits.Stores.{Stores}
 use Rattle.chi_observer.specs.declared.observer.Reason.{Reason}
 use Rattle.chi_observer.specs.declared.arrivals.Untaken.{Untaken}
 use Rattle.chi_observer.specs.declared.arrivals.Untaken.TheVariants.{Fault, SetAside}
 use Rattle.chi_observer.specs.Lines.{Watched}
-use Rattle.chi_observer.specs.Counted.{counted}
-use Rattle.chi_observer.specs.WordedLines.{WatchedWords, is_worded_reason, nothing_worded, takes_by_word, watch_by_word, words_watched}
+use Rattle.chi_observer.specs.WordedLines.{WatchedWords, counted_by_word, is_worded_reason, nothing_worded, takes_by_word, watch_by_word, words_watched}
 use Rattle.chi_observer.specs.Begun.{Beginning, begun, begun_after, forgetting, is_begun_reason, nothing_begun, takes_begun}
 use Rattle.chi_observer.specs.Arrivals.{Arrived, Outcome, arrived, is_untaken, nothing_arrived, outcome}
 use Rattle.chi_observer.specs.Arrivals.Outcome.{Taken, NotTaken, LeftOpen as LeftAtHome}
@@ -114,7 +112,7 @@ fault_of (Ok done) = Ok done
 fault_of (Err reason) = Err (Fault reason)
 
 abbrev pub is_judge_reason : Before → Judged → Flit → Reason → Bool
-is_judge_reason before (FromStart l) flit reason = is_worded_reason l (counted l.line flit) reason
+is_judge_reason before (FromStart l) flit reason = is_worded_reason l (counted_by_word l flit) reason
 is_judge_reason before (FromMiddle b synced) flit reason = is_begun_reason (woken before synced b) flit reason
 is_judge_reason before (AtHome a) flit reason = is_untaken a flit (Fault reason)
 

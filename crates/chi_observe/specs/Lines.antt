@@ -1,5 +1,5 @@
 -- What is known of each line of memory (docs/OBSERVER.md, "A trace of many lines").
-use Rattle.std.specs.Prelude.{◌≡◌, ℕ, zero, suc, ◌+◌, ◌==◌, ◌&&◌, ◌||◌, Bool, true, false, not, List, Option, Some, None, Result, Ok, Err, if◌then◌else◌, is_none, is_some, nat_eq, nat_lt, option_map, replicate, unwrap_or}
+use Rattle.std.specs.Prelude.{◌≡◌, ℕ, ◌==◌, ◌&&◌, ◌||◌, Bool, true, false, not, List, Option, Some, None, Result, Ok, Err, if◌then◌else◌, is_none, is_some, nat_eq, option_map, replicate, unwrap_or}
 use Rattle.std.specs.List.{slice_index_or}
 use Rattle.std.specs.Map.{lookup}
 use Rattle.chi_flit.specs.declared.numbers.WordNo.{WordNo}
@@ -12,7 +12,6 @@ use Rattle.chi_observer.specs.declared.flits.Flit.TheVariants.{Up, Down}
 use Rattle.chi_observer.specs.declared.observer.Reason.TheVariants.{OtherWords}
 use Rattle.chi_observer.specs.declared.wanted.Wanted.{Wanted}
 use Rattle.chi_observer.specs.declared.wanted.Wanted.TheVariants as wants
-use Rattle.chi_observer.specs.Worded.{Words}
 use Rattle.chi_observer.specs.Counted.{may_tell}
 use Rattle.chi_observer.specs.Wanted.{reads_home}
 use Rattle.chi_ids.specs.declared.keys.CacheLine.{CacheLine}
@@ -31,7 +30,7 @@ use Rattle.chi_observe.specs.declared.reasons.LineReason.TheVariants.{OtherHome,
 use Rattle.chi_observe.specs.Judges.{Before, Judged, Verdict, holds, is_judge_reason, judged, keeps_store, opened_from, told_in, told_words, verdict, wanted_in, worded}
 use Rattle.chi_observe.specs.Judges.Verdict.{Known, Faulty, LeftOpen}
 use Rattle.chi_observe.specs.Lacking.{is_known_lacking, is_none_lacking, lacking_shown, lacking_with, lacking_without, may_show, unknown_in}
-use Rattle.chi_observe.specs.Words.{agrees, but_known, but_one, lacks_some, left_of, none_lack, unknown_behind, with_known, words_with}
+use Rattle.chi_observe.specs.Words.{agrees, but_one, lacks_some, left_of, none_lack, with_known, words_with}
 use Rattle.chi_observe.specs.Marks.{Marked, marked, marks_after, nothing_marked, shows_words, teller_of}
 
 -- its home, whether it isn't judged any more, what data of it lack that come in beats, and what its flits have told, and by

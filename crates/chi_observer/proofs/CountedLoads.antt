@@ -1,6 +1,6 @@
 -- A load that tells of a store that nobody saw leads where the store does.
-use Rattle.std.proofs.Common.{◌≡◌, ◌≢◌, inl, ℕ, ◌<◌, List, refl, sym, ap, subst, ◌∙◌}
-use Rattle.std.specs.Prelude.{Bool, true, false, ◌&&◌, ◌||◌, not}
+use Rattle.std.proofs.Common.{◌≡◌, ◌≢◌, inl, ℕ, ◌<◌, List, refl, sym, subst, ◌∙◌}
+use Rattle.std.specs.Prelude.{Bool, true, false, ◌&&◌}
 use Rattle.chi_observer.specs.declared.flits.Due.{Due}
 use Rattle.chi_observer.specs.declared.flits.Stores.{Stores}
 use Rattle.chi_observer.specs.declared.flits.Stores.TheVariants.{Hidden, Listed}
@@ -10,9 +10,9 @@ use Rattle.chi_observer.specs.declared.flits.Act.TheVariants.{Load, Store}
 use Rattle.chi_observer.specs.declared.flits.CacheFlit.{CacheFlit}
 use Rattle.chi_observer.specs.Copies.{Held, holds_data, is_unique, same}
 use Rattle.chi_observer.specs.Copies.Copy.{UniqueDirty}
-use Rattle.chi_observer.specs.Rules.{are_hidden, has_word, is_free, lets_go, lets_store, may_be_free, reads_any}
-use Rattle.chi_observer.specs.Tables.{Known, most, strongest, reach, fresh, told_after, fits_told}
-use Rattle.chi_observer.specs.Worlds.{World, Elsewhere, StoresUnseen, Hidden as HiddenStep, put}
+use Rattle.chi_observer.specs.Rules.{are_hidden, has_word, is_free, may_be_free, reads_any}
+use Rattle.chi_observer.specs.Tables.{Known, most, reach, fresh, told_after}
+use Rattle.chi_observer.specs.Worlds.{World, StoresUnseen, Hidden as HiddenStep, put}
 use Rattle.chi_observer.specs.Worlds.Drift.{Stay, Step}
 use Rattle.chi_observer.specs.Observed.{Observed, Sound, Unstored, Meaning, fits_word, takes, differs, next}
 use Rattle.chi_observer.specs.Counted.{may_tell_store, tells_store, stored, HasWord, ComesRead, CountedLoadsAreTaken, CountedLoadsLead, CountedLoadsCome}
@@ -40,7 +40,8 @@ unfolding come_table
 come_holds Hidden word b k = refl
 come_holds Listed word b k = refl
 
-module _ (o : Observed) (f : CacheFlit) (word : Word) (tells : tells_store o f.agent.0 word ≡ true) where
+-- a load of a copy with data that may have been stored to
+module _ (o : Observed) (f : CacheFlit) (word : Word) (open_copy : (reads_any o.public.stores (o.public.due f.agent.0) (most (o.told f.agent.0)) && holds_data (most (o.told f.agent.0))) ≡ true) where
   abbrev n : ℕ
   n = f.agent.0
 
@@ -53,28 +54,16 @@ module _ (o : Observed) (f : CacheFlit) (word : Word) (tells : tells_store o f.a
   abbrev t : Known
   t = o.told n
 
-  may : may_tell_store o n ≡ true
-  may = left _ _ tells
-
-  open_copy : (reads_any mode d (most t) && holds_data (most t)) ≡ true
-  open_copy = right o.current _ may
-
-  now : o.current ≡ true
-  now = left _ _ may
-
-  other : fits_word o.home (Load word) ≡ false
-  other = turned _ (right (may_tell_store o n) _ tells)
-
   any : reads_any mode d (most t) ≡ true
   any = left _ _ open_copy
 
-  takes_store : takes o (stored f word) ≡ true
+  pub takes_store : takes o (stored f word) ≡ true
   takes_store = both _ _ (right (are_hidden mode) _ any) (or_here _ _ any)
 
   takes_load : takes o (record f { act = Load word }) ≡ true
   takes_load = both _ _ (or_here _ _ (right (reads_any mode d (most t)) _ open_copy)) (or_here _ _ any)
 
-  pub taken_here : f.act ≡ Load word → (takes o f ≡ true) × (takes o (stored f word) ≡ true)
+  taken_here : f.act ≡ Load word → (takes o f ≡ true) × (takes o (stored f word) ≡ true)
   taken_here h = (subst (λ (a : Act). takes o (record f { act = a }) ≡ true) (sym h) takes_load, takes_store)
 
   module _ (sound : Sound o) (low : f.agent.0 < 32) where
@@ -84,16 +73,15 @@ module _ (o : Observed) (f : CacheFlit) (word : Word) (tells : tells_store o f.a
     abbrev t' : Known
     t' = told_after (Store word) d t b
 
-    module _ (w : World) (m : Meaning o w) (has : HasWord f.agent.0 word w) where
+    -- its word isn't that of the value last stored where no agent has stored unseen
+    module _ (w : World) (m : Meaning o w) (has : HasWord f.agent.0 word w) (foreign : Unstored o w → has_word (Load word) w.last ≡ true → false ≡ true) where
       unstored : fresh mode d t (w.state n) ≡ false → Unstored o w
       unstored e = split (λ k. k < 32 → fresh o.public.stores (o.public.due k) (o.told k) (w.state k) ≡ false) n (λ _. e)
           (λ k c lk. rival mode d (o.public.due k) t (o.told k) (w.state n) (w.state k) (m.told n low) (or_here _ _ has.0) (sound.pairs n k low lk (λ z. c (sym z))))
 
-      -- else its words were the home's
       fresh_by : (e : Bool) → fresh mode d t (w.state n) ≡ e → e ≡ true
       fresh_by true h = refl
-      fresh_by false h = no (sym other ∙ word_fits (Load word) o.home
-          (λ _ v k. subst (λ (z : List ℕ). has_word (Load word) z ≡ true) (m.words n low has.0 ∙ m.current now (unstored h) ∙ m.home v k) has.1))
+      fresh_by false h = foreign (unstored h) (subst (λ (z : List ℕ). has_word (Load word) z ≡ true) (m.words n low has.0) has.1)
 
       was_fresh : fresh mode d t (w.state n) ≡ true
       was_fresh = fresh_by (fresh mode d t (w.state n)) refl
@@ -182,11 +170,21 @@ module _ (o : Observed) (f : CacheFlit) (word : Word) (tells : tells_store o f.a
         drifts = Step step Stay;
       }
 
+pub tells_open : (o : Observed) (n : ℕ) (word : Word) → tells_store o n word ≡ true → (reads_any o.public.stores (o.public.due n) (most (o.told n)) && holds_data (most (o.told n))) ≡ true
+tells_open o n word tells = right o.current _ (left (may_tell_store o n) _ tells)
+
+-- else the home had its word
+pub home_foreign : (o : Observed) (n : ℕ) (word : Word) (w : World) → tells_store o n word ≡ true → Meaning o w → Unstored o w → has_word (Load word) w.last ≡ true → false ≡ true
+home_foreign o n word w tells m u has =
+    let now : o.current ≡ true = left _ _ (left (may_tell_store o n) _ tells) in
+    sym (turned (fits_word o.home (Load word)) (right (may_tell_store o n) _ tells))
+    ∙ word_fits (Load word) o.home (λ _ v k. subst (λ (z : List ℕ). has_word (Load word) z ≡ true) (m.current now u ∙ m.home v k) has)
+
 pub counted_taken : CountedLoadsAreTaken
-counted_taken o f word h tells = taken_here o f word tells h
+counted_taken o f word h tells = taken_here o f word (tells_open o f.agent.0 word tells) h
 
 pub counted_lead : CountedLoadsLead
-counted_lead o f word w sound low tells m has = led_here o f word tells sound low w m has
+counted_lead o f word w sound low tells m has = led_here o f word (tells_open o f.agent.0 word tells) sound low w m has (home_foreign o f.agent.0 word w tells m)
 
 pub counted_come : CountedLoadsCome
-counted_come o f word w' sound low tells free m = came_here o f word tells sound low free w' m
+counted_come o f word w' sound low tells free m = came_here o f word (tells_open o f.agent.0 word tells) sound low free w' m

@@ -27,9 +27,8 @@ use Rattle.chi_observer.specs.Moments.{has_moment, shown_after, waits_after}
 use Rattle.chi_observer.specs.Observed.{Observed, current_after, differs, fits, fits_word, goes}
 use Rattle.chi_observer.specs.Worlds.{home_may, public_after, public_granted, put}
 use Rattle.chi_observer.specs.Lines.{Watched, is_taken, watch}
-use Rattle.chi_observer.specs.Counted.{counted, takes_counted, watch_counted}
-use Rattle.chi_observer.specs.Worded.{Words, agree, all_words, copy_words, fits_load, fits_words, is_open, is_placed, known_words, may_be_empty, may_read_any, no_words, renewed, words_by, words_granted}
-use Rattle.chi_observer.specs.WordedLines.{WatchedWords, fits_worded, words_behind, worded_in}
+use Rattle.chi_observer.specs.Worded.{Words, agree, all_words, copy_words, counts_later, fits_load, fits_words, forgets, is_placed, known_words, may_be_empty, may_read_any, no_words, renewed, words_after, words_by, words_granted}
+use Rattle.chi_observer.specs.WordedLines.{WatchedWords, counted_by_word, is_taken_worded, watch_worded, worded_in}
 use Rattle.chi_observer.specs.Wanted.{AnyWordsAreTaken, FreeWordsAreTaken, KnownWordsAreTaken, WordlessFlitsAreApart, cancelled_if, flit_with, flit_words, homed, is_wordless, tells_cancelled, wanted, wanted_if, with_home}
 use Rattle.chi_observer.proofs.Finite.{no, left, right}
 
@@ -274,92 +273,60 @@ no_look true b h = no h
 no_look false true h = no h
 no_look false false h = refl
 
-plain_act : (s : Watched) (n : Agent) (a : Act) (v : List ℕ) → looks a ≡ false → counted s (Up (record { agent = n; act = a; shown = v })) ≡ Up (record { agent = n; act = a; shown = v })
-plain_act s n (Load word) v h = no (sym h)
-plain_act s n other v h = refl
+plain_act : (l : WatchedWords) (n : Agent) (a : Act) (v : List ℕ) → looks a ≡ false → counted_by_word l (Up (record { agent = n; act = a; shown = v })) ≡ Up (record { agent = n; act = a; shown = v })
+plain_act l n (Load word) v h = no (sym h)
+plain_act l n other v h = refl
 
-plain_wordless : (s : Watched) (e : Flit) → is_wordless e ≡ true → counted s e ≡ e
-plain_wordless s (Up f) h = plain_act s f.agent f.act f.shown (no_look (tells_words f.act) (looks f.act) h)
-plain_wordless s (Down g) h = refl
+plain_wordless : (l : WatchedWords) (e : Flit) → is_wordless e ≡ true → counted_by_word l e ≡ e
+plain_wordless l (Up f) h = plain_act l f.agent f.act f.shown (no_look (tells_words f.act) (looks f.act) h)
+plain_wordless l (Down g) h = refl
 
 pub either_way : (b : Bool) → (if b then Nothing else Nothing) ≡ Nothing
 either_way true = refl
 either_way false = refl
 
-wanted_act : (s w : Watched) (n : Agent) (a : Act) (v : List ℕ) → wanted w (Up (record { agent = n; act = a; shown = v })) ≢ Nothing
-    → counted s (Up (record { agent = n; act = a; shown = v })) ≡ Up (record { agent = n; act = a; shown = v })
-wanted_act s w n (Load word) v some = absurd (some (either_way (nat_lt n.0 32)))
-wanted_act s w n other v some = refl
+wanted_act : (l : WatchedWords) (w : Watched) (n : Agent) (a : Act) (v : List ℕ) → wanted w (Up (record { agent = n; act = a; shown = v })) ≢ Nothing
+    → counted_by_word l (Up (record { agent = n; act = a; shown = v })) ≡ Up (record { agent = n; act = a; shown = v })
+wanted_act l w n (Load word) v some = absurd (some (either_way (nat_lt n.0 32)))
+wanted_act l w n other v some = refl
 
-plain_wanted : (s w : Watched) (e : Flit) → wanted w e ≢ Nothing → counted s e ≡ e
-plain_wanted s w (Up f) some = wanted_act s w f.agent f.act f.shown some
-plain_wanted s w (Down g) some = refl
+plain_wanted : (l : WatchedWords) (w : Watched) (e : Flit) → wanted w e ≢ Nothing → counted_by_word l e ≡ e
+plain_wanted l w (Up f) some = wanted_act l w f.agent f.act f.shown some
+plain_wanted l w (Down g) some = refl
 
 pub wanted_as : (w : Watched) (e : Flit) (words : List ℕ) → wanted w (flit_with e words) ≡ wanted w e
 wanted_as w (Up f) words = refl
 wanted_as w (Down g) words = refl
 
-plain_with : (s w : Watched) (e : Flit) (words : List ℕ) → wanted w e ≢ Nothing → counted s (flit_with e words) ≡ flit_with e words
-plain_with s w e words some = plain_wanted s w (flit_with e words) (λ none. some (sym (wanted_as w e words) ∙ none))
+plain_with : (l : WatchedWords) (w : Watched) (e : Flit) (words : List ℕ) → wanted w e ≢ Nothing → counted_by_word l (flit_with e words) ≡ flit_with e words
+plain_with l w e words some = plain_wanted l w (flit_with e words) (λ none. some (sym (wanted_as w e words) ∙ none))
 
 is_some_wanted : (w : Watched) (e : Flit) (x : Wanted) → x ≢ Nothing → wanted w e ≡ x → wanted w e ≢ Nothing
 is_some_wanted w e x some is none = some (sym is ∙ none)
 
-apart_counted : (s : Watched) (words : List ℕ) (e : Flit) → is_wordless e ≡ true → (takes_counted (with_home words s) e ≡ takes_counted s e) × (watch_counted (with_home words s) e ≡ with_home words (watch_counted s e))
-apart_counted s words e h =
-    let here = plain_wordless s e h in
-    let there = plain_wordless (with_home words s) e h in
-    let same = apart_itself s words e h in (
-      ap (is_taken (with_home words s)) there ∙ (same.0 ∙ sym (ap (is_taken s) here)),
-      ap (watch (with_home words s)) there ∙ (same.1 ∙ sym (ap (λ (x : Flit). with_home words (watch s x)) here)),
-    )
-
-any_counted : (s : Watched) (words : List ℕ) (e : Flit) → wanted s e ≡ Any → (takes_counted s (flit_with e words) ≡ takes_counted s e) × (watch_counted s (flit_with e words) ≡ with_home words (watch_counted s e))
-any_counted s words e h =
-    let some = is_some_wanted s e Any (λ none. absurd (search (rules, arith))) h in
-    let here = plain_wanted s s e some in
-    let there = plain_with s s e words some in
-    let same = any_taken_itself s words e h in (
-      ap (is_taken s) there ∙ (same.0 ∙ sym (ap (is_taken s) here)),
-      ap (watch s) there ∙ (same.1 ∙ sym (ap (λ (x : Flit). with_home words (watch s x)) here)),
-    )
-
-free_counted : (s : Watched) (words : List ℕ) (e : Flit) → wanted s e ≡ Free → (takes_counted s (flit_with e words) ≡ takes_counted s e) × (watch_counted s (flit_with e words) ≡ watch_counted s e)
-free_counted s words e h =
-    let some = is_some_wanted s e Free (λ none. absurd (search (rules, arith))) h in
-    let here = plain_wanted s s e some in
-    let there = plain_with s s e words some in
-    let same = free_taken_itself s words e h in (
-      ap (is_taken s) there ∙ (same.0 ∙ sym (ap (is_taken s) here)),
-      ap (watch s) there ∙ (same.1 ∙ sym (ap (watch s) here)),
-    )
-
-known_counted : (s : Watched) (e : Flit) → wanted s e ≡ Known → takes_counted s e ≡ true → fits s.seen.home (flit_words e) ≡ true
-known_counted s e h t =
-    known_taken_itself s e h (ap (is_taken s) (sym (plain_wanted s s e (is_some_wanted s e Known (λ none. absurd (search (rules, arith))) h))) ∙ t)
-
 -- WORDS THAT LOADS AND STORES TOLD
 -- a store is none of those of which words are kept
-kept_words : (z : Stores) (a : Act) (fresh any empty : Bool) (known other words : Words) → (not (are_hidden z) && stores a) ≡ false → words_by z a fresh any empty known words ≡ words_by z a fresh any empty other words
-kept_words Hidden (Store word) fresh any empty known other words h = refl
-kept_words Listed (Store word) fresh any empty known other words h = no (sym h)
-kept_words z act fresh any empty known other words h = refl
+kept_words : (z : Stores) (a : Act) (forget later empty : Bool) (known other words : Words) → (not (are_hidden z) && stores a) ≡ false → words_by z a forget later empty known words ≡ words_by z a forget later empty other words
+kept_words Hidden (Store word) forget later empty known other words h = refl
+kept_words Listed (Store word) forget later empty known other words h = no (sym h)
+kept_words z act forget later empty known other words h = refl
 
 pub apart : WordlessFlitsAreApart
 apart l words (Up f) h none =
     let s = l.line in
-    let same = apart_counted s words (Up f) h in
-    let here = plain_wordless s (Up f) h in
-    let there = plain_wordless (with_home words s) (Up f) h in
+    let same = apart_itself s words (Up f) h in
+    let here = plain_wordless l (Up f) h in
+    let there = plain_wordless (homed words l) (Up f) h in
     let o = worded_in l in
     let home = worded_in (homed words l) in (
-      (λ i. same.0 i && fits_worded home (there i)) ∙ sym (ap (λ (x : Flit). takes_counted s (Up f) && fits_worded o x) here),
-      (λ i. record { line = same.1 i; words = words_behind home (there i) })
-          ∙ (ap (λ (k : Words). record { line = with_home words (watch_counted s (Up f)); words = k })
-          (kept_words s.seen.public.stores f.act (is_open o f) (may_read_any o f) (may_be_empty (s.seen.told f.agent.0).told) (known_words home) (known_words o) l.words none)
-          ∙ sym (ap (λ (x : Flit). record { line = with_home words (watch_counted s (Up f)); words = words_behind o x }) here)),
+      ap (is_taken_worded (homed words l)) there ∙ ((λ i. same.0 i && fits_words o f) ∙ sym (ap (is_taken_worded l) here)),
+      ap (watch_worded (homed words l)) there
+          ∙ ((λ i. record { line = same.1 i; words = words_after f home })
+          ∙ (ap (λ (k : Words). record { line = with_home words (watch s (Up f)); words = k })
+          (kept_words s.seen.public.stores f.act (forgets o f) (counts_later o f) (may_be_empty (s.seen.told f.agent.0).told) (known_words home) (known_words o) l.words none)
+          ∙ sym (ap (λ (x : Flit). homed words (watch_worded l x)) here))),
     )
-apart l words (Down g) h none = let same = apart_counted l.line words (Down g) h in (
+apart l words (Down g) h none = let same = apart_itself l.line words (Down g) h in (
   ap (λ (b : Bool). b && true) same.0,
   ap (λ (s : Watched). record { line = s; words = words_granted g (worded_in l) }) same.1,
 )
@@ -414,25 +381,28 @@ pub any_taken : AnyWordsAreTaken
 any_taken l words (Up f) h =
     let s = l.line in
     let some = is_some_wanted s (Up f) Any (λ none. absurd (search (rules, arith))) h in
-    let same = any_counted s words (Up f) h in
-    let here = plain_wanted s s (Up f) some in
-    let there = plain_with s s (Up f) words some in
+    let same = any_taken_itself s words (Up f) h in
+    let here = plain_wanted l s (Up f) some in
+    let there = plain_with l s (Up f) words some in
     let o = worded_in l in (
-      (λ i. same.0 i && fits_worded o (there i)) ∙ ap (λ (b : Bool). takes_counted s (Up f) && b) (any_worded l words f h),
-      (λ i. record { line = same.1 i; words = words_behind o (there i) })
-          ∙ sym (ap (λ (x : Flit). record { line = with_home words (watch_counted s (Up f)); words = words_behind o x }) here),
+      ap (is_taken_worded l) there ∙ ((λ i. same.0 i && fits_words o (record f { shown = words })) ∙ ap (λ (b : Bool). is_taken s (Up f) && b) (any_worded l words f h)),
+      ap (watch_worded l) there
+          ∙ ((λ i. record { line = same.1 i; words = words_after f o })
+          ∙ sym (ap (λ (x : Flit). homed words (watch_worded l x)) here)),
     )
-any_taken l words (Down g) h = let same = any_counted l.line words (Down g) h in (
+any_taken l words (Down g) h = let same = any_taken_itself l.line words (Down g) h in (
   ap (λ (b : Bool). b && true) same.0,
   ap (λ (s : Watched). record { line = s; words = words_granted g (worded_in l) }) same.1,
 )
 
 pub free_taken : FreeWordsAreTaken
 free_taken l words (Up f) h = absurd (not_free (not (tells_words f.act) || tells_cancelled l.line.seen f) _ (in_reach (nat_lt f.agent.0 32) _ Free h (λ e. absurd (search (rules, arith)))).1)
-free_taken l words (Down g) h = let same = free_counted l.line words (Down g) h in (
+free_taken l words (Down g) h = let same = free_taken_itself l.line words (Down g) h in (
   ap (λ (b : Bool). b && true) same.0,
   ap (λ (s : Watched). record { line = s; words = words_granted g (worded_in l) }) same.1,
 )
 
 pub known_taken : KnownWordsAreTaken
-known_taken l e h t = known_counted l.line e h (left (takes_counted l.line e) _ t)
+known_taken l e h t =
+    let some = is_some_wanted l.line e Known (λ none. absurd (search (rules, arith))) h in
+    known_taken_itself l.line e h (left (is_taken l.line e) _ (ap (is_taken_worded l) (sym (plain_wanted l l.line e some)) ∙ t))

@@ -26,7 +26,7 @@ pub mod ListedWords
 mod ListedKnown
 pub mod WordedSent
 mod WordedGiven
-mod WordedCalm
+mod WordedCounted
 mod ListedBefore
 mod ListedComes
 mod ListedHome

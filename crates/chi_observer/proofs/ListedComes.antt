@@ -10,12 +10,12 @@ use Rattle.chi_observer.specs.declared.flits.Stores.{Stores}
 use Rattle.chi_observer.specs.declared.flits.Stores.TheVariants.{Listed as AllListed}
 use Rattle.chi_observer.specs.Copies.{Held, holds_data, is_unique}
 use Rattle.chi_observer.specs.Copies.Copy.{UniqueEmpty}
-use Rattle.chi_observer.specs.Rules.{allows, are_hidden, has_data, has_word, hides_stores, lets_go, lets_store, looks, reads_any, stores, tells_words, word_at, writes}
+use Rattle.chi_observer.specs.Rules.{allows, are_hidden, has_data, has_word, hides_stores, is_request, is_resending, lets_go, lets_store, looks, reads_any, reads_later, stores, tells_words, word_at, writes}
 use Rattle.chi_observer.specs.Tables.{Known, fits_told, most, renews}
 use Rattle.chi_observer.specs.Worlds.{Drift, Sends, World, all_below, put}
 use Rattle.chi_observer.specs.Observed.{Meaning, Observed, Sound, fits, fits_word, next, takes, words_fit}
 use Rattle.chi_observer.specs.Laws.{ComesBy}
-use Rattle.chi_observer.specs.Worded.{MeaningWords, SendsWord, Worded, Words, agree, all_words, fits_known, fits_load, fits_words, has_stored, is_open, is_placed, known_words, may_be_empty, next_worded, no_words, takes_worded, words_by, words_stored}
+use Rattle.chi_observer.specs.Worded.{MeaningWords, SendsWord, Worded, Words, agree, all_words, counts_later, fits_known, fits_load, fits_words, forgets, has_stored, is_open, is_placed, known_words, may_be_empty, next_worded, no_words, takes_worded, words_by, words_stored}
 use Rattle.chi_observer.proofs.Finite.{no, left, right, both}
 use Rattle.chi_observer.proofs.Facts.{load_holds_data, no_data, of_form, one_of, or_here, or_there, other_of, reach_self, top_copy}
 use Rattle.chi_observer.proofs.Words.{any_word, known_word}
@@ -43,12 +43,12 @@ listed_by (Store word) empty known words = put word.place.0 (Some word.value) (i
 listed_by (Load word) empty known words = put word.place.0 (Some word.value) words
 listed_by other empty known words = words
 
-as_listed : (a : Act) (z : Stores) (loose any empty : Bool) (known words : Words) → z ≡ AllListed → loose ≡ false → any ≡ false → words_by z a loose any empty known words ≡ listed_by a empty known words
-as_listed (Store word) z loose any empty known words h q k = ap (λ (y : Stores). words_stored y word empty known) h
-as_listed (Load word) z loose any empty known words h q k =
-    ap (λ b. if b then no_words else (if any then words else put word.place.0 (Some word.value) words)) q
+as_listed : (a : Act) (z : Stores) (forget later empty : Bool) (known words : Words) → z ≡ AllListed → (stores a ≡ false → forget ≡ false) → later ≡ false → words_by z a forget later empty known words ≡ listed_by a empty known words
+as_listed (Store word) z forget later empty known words h q k = ap (λ (y : Stores). words_stored y word empty known) h
+as_listed (Load word) z forget later empty known words h q k =
+    ap (λ b. if b then no_words else (if later then words else put word.place.0 (Some word.value) words)) (q refl)
     ∙ ap (λ b. if b then words else put word.place.0 (Some word.value) words) k
-as_listed other z loose any empty known words h q k = ap (λ b. if b then no_words else words) q
+as_listed other z forget later empty known words h q k = ap (λ b. if b then no_words else words) (q refl)
 
 unmarked : (shows r g any fit : Bool) → r ≡ false → any ≡ false → ((not shows || (r || g)) && (any || fit)) ≡ true → ((not shows || g) && fit) ≡ true
 unmarked shows true g any fit e k h = no (sym e)
@@ -171,12 +171,16 @@ module _ (l : Worded) (f : CacheFlit) (w' : World) (listed : l.seen.public.store
   never : any ≡ false
   never = ap (λ (z : Stores). reads_any z d (most t)) listed
 
+  shut : is_open l f ≡ false
+  shut = ap (λ (z : Stores). hides_stores z d && is_unique (most t)) listed
+
   -- what is known behind it
   abbrev behind_it : Words
   behind_it = listed_by f.act (may_be_empty t.told) (known_words l) l.words
 
   known_behind : (next o f).current ≡ false → agree behind_it w'.last ≡ true
-  known_behind c = subst (λ k. agree k w'.last ≡ true) (as_listed f.act o.public.stores (is_open l f) any (may_be_empty t.told) (known_words l) l.words listed (ap (λ (z : Stores). hides_stores z d && is_unique (most t)) listed) never)
+  known_behind c = subst (λ k. agree k w'.last ≡ true) (as_listed f.act o.public.stores (forgets l f) (counts_later l f) (may_be_empty t.told) (known_words l) l.words listed
+      (λ q. (λ i. steady q i || (shut i && (not (is_resending d) || is_request f.act)))) (ap (λ (z : Stores). reads_later z d (most t)) listed))
       (m.words c (all_unstored (next o f) w' listed))
 
   taken : takes o f ≡ true

@@ -3,26 +3,26 @@ use Rattle.std.proofs.Common.{◌≡◌, ◌≢◌, ℕ, ◌<◌, List, refl, sy
 use Rattle.std.specs.Prelude.{Bool, true, false, ◌==◌, ◌&&◌, ◌||◌, not, Option, Some, None, nat_lt, if◌then◌else◌}
 use Rattle.std.proofs.lemmas.Bool.{eqb-true, ltb-true, or_from, or_parts}
 use Rattle.chi_observer.specs.declared.flits.Due.{Due}
+use Rattle.chi_observer.specs.declared.flits.Due.TheVariants.{Acknowledgement}
 use Rattle.chi_observer.specs.declared.flits.Stores.{Stores}
 use Rattle.chi_observer.specs.declared.flits.Stores.TheVariants.{Hidden, Listed as AllListed}
 use Rattle.chi_observer.specs.declared.flits.Word.{Word}
 use Rattle.chi_observer.specs.declared.flits.Act.{Act}
 use Rattle.chi_observer.specs.declared.flits.Act.TheVariants.{Load, Store}
 use Rattle.chi_observer.specs.declared.flits.CacheFlit.{CacheFlit}
-use Rattle.chi_observer.specs.Copies.{Copy, Held, holds_data, is_unique, same}
-use Rattle.chi_observer.specs.Copies.Copy.{UniqueEmpty}
-use Rattle.chi_observer.specs.Rules.{acts, are_hidden, has_data, has_word, hides_stores, leaves_any, lets_go, looks, may_store, stores, tells_words, throws, word_at, writes}
-use Rattle.chi_observer.specs.Tables.{Known, most, reach, renews, tells_dirty}
+use Rattle.chi_observer.specs.Copies.{Copy, Held, holds_data, is_unique}
+use Rattle.chi_observer.specs.Rules.{acts, are_hidden, has_data, has_word, leaves_any, lets_go, looks, may_store, reads_any, reads_later, stores, tells_words, throws, word_at, writes}
+use Rattle.chi_observer.specs.Tables.{Known, most, reach, renews}
 use Rattle.chi_observer.specs.Worlds.{World, put}
 use Rattle.chi_observer.specs.Observed.{Observed, Sound, Unstored, next}
 use Rattle.chi_observer.specs.WordedLaws.{WordedFlitsAreTaken, WordedFlitsLead}
-use Rattle.chi_observer.specs.Worded.{Worded, MeaningWords, SendsWord, Words, agree, all_words, fits_known, fits_load, has_stored, is_open, is_placed, known_words, may_be_empty, may_read_any, next_worded, no_words, renewed, takes_worded, words_by}
+use Rattle.chi_observer.specs.Worded.{Worded, MeaningWords, SendsWord, Words, agree, all_words, counts_later, fits_known, fits_load, forgets, has_stored, is_placed, known_words, may_be_empty, may_read_any, next_worded, no_words, renewed, takes_worded, words_by}
 use Rattle.chi_observer.proofs.Finite.{no, left, right, both, implies, follow}
 use Rattle.chi_observer.proofs.Spots.{DueCopies, each_due_copy, if_some}
-use Rattle.chi_observer.proofs.Facts.{and_false, flip, load_holds_data, or_here, or_there, other_of, read_calm}
+use Rattle.chi_observer.proofs.Facts.{and_false, flip, load_holds_data, or_here, or_there, other_of, read_calm, read_told}
 use Rattle.chi_observer.proofs.Copies.{each_below}
 use Rattle.chi_observer.proofs.Put.{here, split, there, unlike}
-use Rattle.chi_observer.proofs.Cache.{any_well, before, calm_of, closed_of, data_closed, last_by, leads, read_word, shown_last, still, taken, unstored, unstored_by}
+use Rattle.chi_observer.proofs.Cache.{any_well, before, calm_of, closed_of, data_closed, last_by, leads, shown_last, still, taken, unstored, unstored_by}
 use Rattle.chi_observer.proofs.ListedWords.{agree_at, agree_by, all_unstored, fits_word_of, same_back}
 
 where_so : (a b : Bool) → (a ≡ true → b ≡ true) → (not a || b) ≡ true
@@ -101,25 +101,24 @@ after_agrees z other true any empty had k l u v h store same read = refl
 after_agrees z other false any empty had k l u v h store same read = let s = same refl refl in subst (λ x. agree l x ≡ true) (sym s.0) s.1
 
 -- what is loaded is as known
-load_known : (a : Act) (k : Words) (u : List ℕ) → is_placed a ≡ true → agree k u ≡ true → has_word a u ≡ true → fits_load a k ≡ true
+pub load_known : (a : Act) (k : Words) (u : List ℕ) → is_placed a ≡ true → agree k u ≡ true → has_word a u ≡ true → fits_load a k ≡ true
 load_known (Load word) k u p g h = subst (λ v. fits_known (k word.place.0) v ≡ true) (eqb-true (word_at u word.place.0) word.value h) (agree_at k u g word.place.0 (ltb-true word.place.0 8 p))
 load_known other k u p g h = refl
 
--- a copy to which no store may be done unseen says of none
-both_no : (h u y : Bool) → (h && u) ≡ false → (h && (u && y)) ≡ false
-both_no true true y e = no (sym e)
-both_no true false y e = refl
-both_no false u y e = refl
+-- a load that counts behind the CompAck is of a copy that is told to be unique
+later_told : (z : Stores) (d : Due) (t : Known) (s : Held) → reach z d t s ≡ true → reads_later z d s.copy ≡ true → reads_later z d (most t) ≡ true
+later_told z Acknowledgement t s r h = read_told z Acknowledgement t s r h
+later_told Hidden other t s r h = no h
+later_told AllListed other t s r h = no h
 
-empty_no : (h : Bool) (c : Copy) → (h && is_unique c) ≡ false → (h && same c UniqueEmpty) ≡ false
-empty_no h UniqueEmpty e = e
-empty_no true other e = refl
-empty_no false other e = refl
+not_later : (z : Stores) (d : Due) (c : Copy) → reads_any z d c ≡ false → reads_later z d c ≡ false
+not_later z Acknowledgement c h = h
+not_later Hidden other c h = refl
+not_later AllListed other c h = refl
 
-pub unopened : (z : Stores) (a : Act) (x : Bool) (d : Due) (t : Known) → stores a ≡ false → (hides_stores z d && is_unique (most t)) ≡ false → renews z a x d t ≡ false
-unopened z (Store word) x d t q e = no (sym q)
-unopened z (Load word) x d t q e = empty_no (hides_stores z d) (most t) e
-unopened z other x d t q e = both_no (hides_stores z d) (is_unique (most t)) (tells_dirty other || throws other x) e
+own_word : (a b : Bool) → (a || b) ≡ true → (a ≡ true → false ≡ true) → b ≡ true
+own_word true b h e = no (e refl)
+own_word false b h e = h
 
 -- what is no load reads none
 plain_load : (a : Act) (k : Words) → looks a ≡ false → fits_load a k ≡ true
@@ -165,11 +164,13 @@ module _ (l : Worded) (f : CacheFlit) (w w' : World) (sound : Sound l.seen) (low
   holding : looks f.act ≡ true → holds_data s.copy ≡ true
   holding k = load_holds_data f.act x d s (w'.state n) k send.sends.act
 
-  loaded_last : looks f.act ≡ true → may_read_any l f ≡ false → has_word f.act w.last ≡ true
-  loaded_last k e = subst (λ (u : List ℕ). has_word f.act u ≡ true) (m.seen.words n low (holding k)) (read_word o f w w' sound low m.seen send.sends send.loaded e)
+  -- where it doesn't count behind the CompAck it is a word of the copy
+  loaded_last : looks f.act ≡ true → counts_later l f ≡ false → has_word f.act w.last ≡ true
+  loaded_last k e = subst (λ (u : List ℕ). has_word f.act u ≡ true) (m.seen.words n low (holding k))
+      (own_word (reads_later mode d s.copy) _ send.loaded (λ h. sym e ∙ later_told mode d t s (m.seen.told n low) h))
 
   load_agrees : may_read_any l f ≡ false → o.current ≡ false → (b : Bool) → looks f.act ≡ b → fits_load f.act l.words ≡ true
-  load_agrees e c true k = load_known f.act l.words w.last send.placed (m.words c (unstored_by o f w w' sound low m.seen send.sends (holding k) (read_calm mode d t s e))) (loaded_last k e)
+  load_agrees e c true k = load_known f.act l.words w.last send.placed (m.words c (unstored_by o f w w' sound low m.seen send.sends (holding k) (read_calm mode d t s e))) (loaded_last k (not_later mode d (most t) e))
   load_agrees e c false k = plain_load f.act l.words k
 
   fits_by : (c : Bool) → o.current ≡ c → (o.current || ((not (has_data f.act) || (renewed l f || agree l.words f.shown)) && (may_read_any l f || fits_load f.act l.words))) ≡ true
@@ -199,8 +200,8 @@ module _ (l : Worded) (f : CacheFlit) (w w' : World) (sound : Sound l.seen) (low
   pub led_words : MeaningWords (next_worded l f) w'
   led_words = record {
     seen = leads o f w w' sound low m.seen send.sends;
-    words = λ c u. after_agrees mode f.act (is_open l f) (may_read_any l f) (may_be_empty t.told) (holds_data s.copy) (known_words l) l.words w.last w'.last send.stored
-        (λ q listed. (had_data q, known_agrees l w listed m)) (λ q e. same_words c u (unopened mode f.act x d t q e)) (λ k e a. loaded_last k a);
+    words = λ c u. after_agrees mode f.act (forgets l f) (counts_later l f) (may_be_empty t.told) (holds_data s.copy) (known_words l) l.words w.last w'.last send.stored
+        (λ q listed. (had_data q, known_agrees l w listed m)) (λ q e. same_words c u (or_parts (renewed l f) _ e).0) (λ k e a. loaded_last k a);
   }
 
 pub words_taken : WordedFlitsAreTaken

@@ -1,5 +1,5 @@
 -- A load that tells of a store which nobody saw counts as that store (docs/OBSERVER.md, "Flits of a cache").
-use Rattle.std.specs.Prelude.{◌≡◌, ℕ, ◌<◌, Bool, true, false, ◌&&◌, not, List, if◌then◌else◌, nat_lt}
+use Rattle.std.specs.Prelude.{◌≡◌, ℕ, ◌<◌, Bool, true, false, ◌&&◌, not, if◌then◌else◌, nat_lt}
 use Rattle.chi_observer.specs.declared.flits.Word.{Word}
 use Rattle.chi_observer.specs.declared.flits.Act.{Act}
 use Rattle.chi_observer.specs.declared.flits.Act.TheVariants.{Load, Store}

@@ -7,11 +7,11 @@ pub mod Observed
 pub mod Moments
 pub mod Laws
 pub mod Runs
+pub mod Lines
+pub mod Counted
 pub mod Worded
 pub mod ListedRuns
 pub mod WordedLaws
-pub mod Lines
-pub mod Counted
 pub mod WordedLines
 pub mod Wanted
 pub mod Begun

@@ -210,6 +210,14 @@ lets_store other = may_be_free other
 abbrev pub reads_any : Stores → Due → Copy → Bool
 reads_any z d s = are_hidden z && (lets_store d && is_unique s)
 
+-- and the word of the copy isn't asked for where that is so by the CompAck alone
+abbrev pub is_acknowledging : Due → Bool
+is_acknowledging Acknowledgement = true
+is_acknowledging other = false
+
+abbrev pub reads_later : Stores → Due → Copy → Bool
+reads_later z d s = are_hidden z && (is_acknowledging d && is_unique s)
+
 -- the value last stored is lost: a unique copy is thrown away whose agent may have stored to it unseen
 abbrev pub loses : Stores → Act → Bool → Due → Copy → Bool
 loses z a x d s = throws a x && (hides_stores z d && is_unique s)

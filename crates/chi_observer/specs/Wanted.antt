@@ -9,8 +9,7 @@ use Rattle.chi_observer.specs.declared.wanted.Wanted.TheVariants.{Nothing, Known
 use Rattle.chi_observer.specs.Rules.{are_hidden, gives_data, has_data, lets_go, looks, reads_any, stores, tells_words}
 use Rattle.chi_observer.specs.Tables.{is_cancelled, most, renews, shows_told}
 use Rattle.chi_observer.specs.Observed.{Observed, fits}
-use Rattle.chi_observer.specs.Lines.{Watched}
-use Rattle.chi_observer.specs.Counted.{takes_counted}
+use Rattle.chi_observer.specs.Lines.{Watched, is_taken}
 use Rattle.chi_observer.specs.Worded.{Words, agree, copy_words, no_words}
 use Rattle.chi_observer.specs.WordedLines.{WatchedWords, takes_by_word, watch_by_word, worded_in}
 
@@ -85,7 +84,7 @@ wanted_words l (Down g) = no_words
 
 abbrev pub AnyWordsAreTaken : Type 0
 AnyWordsAreTaken = (l : WatchedWords) (words : List ℕ) (e : Flit) → wanted l.line e ≡ Any
-    → (takes_by_word l (flit_with e words) ≡ (takes_counted l.line e && agree (wanted_words l e) words)) × (watch_by_word l (flit_with e words) ≡ homed words (watch_by_word l e))
+    → (takes_by_word l (flit_with e words) ≡ (is_taken l.line e && agree (wanted_words l e) words)) × (watch_by_word l (flit_with e words) ≡ homed words (watch_by_word l e))
 
 -- Data that tell nothing by their words are taken with any.
 abbrev pub FreeWordsAreTaken : Type 0

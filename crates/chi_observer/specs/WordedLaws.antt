@@ -1,14 +1,13 @@
 -- What a flit does to the worlds that what is told of a line and the words that are known of it stand for (docs/OBSERVER.md,
 -- "What is proved").
-use Rattle.std.specs.Prelude.{◌≡◌, ◌<◌, ℕ, ◌&&◌, ◌||◌, false, not, true}
+use Rattle.std.specs.Prelude.{◌≡◌, ◌<◌, nat_lt, true}
+use Rattle.chi_observer.specs.declared.flits.Word.{Word}
 use Rattle.chi_observer.specs.declared.flits.CacheFlit.{CacheFlit}
 use Rattle.chi_observer.specs.declared.flits.HomeFlit.{HomeFlit}
-use Rattle.chi_observer.specs.Copies.{is_unique}
-use Rattle.chi_observer.specs.Rules.{has_data, hides_stores, looks}
-use Rattle.chi_observer.specs.Tables.{most}
 use Rattle.chi_observer.specs.Worlds.{World, Gives, Hidden, Informed}
-use Rattle.chi_observer.specs.Observed.{Observed, Sound, takes, takes_home}
-use Rattle.chi_observer.specs.Worded.{Worded, MeaningWords, SendsWord, may_read_any, next_worded, next_worded_home, renewed, takes_worded}
+use Rattle.chi_observer.specs.Observed.{Sound, takes_home}
+use Rattle.chi_observer.specs.Counted.{HasWord, stored}
+use Rattle.chi_observer.specs.Worded.{Worded, MeaningWords, SendsWord, next_worded, next_worded_home, takes_worded, tells_by_word}
 
 abbrev pub WordedFlitsAreTaken : Type 0
 WordedFlitsAreTaken = (l : Worded) (f : CacheFlit) (w w' : World) → Sound l.seen → f.agent.0 < 32 → MeaningWords l w → SendsWord l.seen.public f w w' → takes_worded l f ≡ true
@@ -23,11 +22,10 @@ WordedHomeFlitsLead = (l : Worded) (g : HomeFlit) (w w' : World) → Sound l.see
 abbrev pub WordsAreClosed : Type 0
 WordsAreClosed = (l : Worded) (w w' : World) → Sound l.seen → MeaningWords l w → Hidden l.seen.public w w' → MeaningWords l w'
 
--- no store may be done unseen
-abbrev pub Calm : Observed → Type 0
-Calm o = (n : ℕ) → n < 32 → (hides_stores o.public.stores (o.public.due n) && is_unique (most (o.told n))) ≡ false
+-- where a load counts as a store, the store is taken, and each world whose copy has the word is one that it leaves
+abbrev pub StoresByWordAreTaken : Type 0
+StoresByWordAreTaken = (l : Worded) (f : CacheFlit) (word : Word) → tells_by_word l f.agent.0 word ≡ true → nat_lt word.place.0 8 ≡ true → takes_worded l (stored f word) ≡ true
 
--- so it is where words of a flit are held against those that are known, while the value isn't the home's
-abbrev pub WordsAreHeldCalm : Type 0
-WordsAreHeldCalm = (l : Worded) (f : CacheFlit) → Sound l.seen → f.agent.0 < 32 → takes l.seen f ≡ true → l.seen.current ≡ false → l.seen.public.thrown ≡ false
-    → ((has_data f.act && not (renewed l f)) || (looks f.act && not (may_read_any l f))) ≡ true → Calm l.seen
+abbrev pub StoresByWordLead : Type 0
+StoresByWordLead = (l : Worded) (f : CacheFlit) (word : Word) (w : World) → Sound l.seen → f.agent.0 < 32 → tells_by_word l f.agent.0 word ≡ true → nat_lt word.place.0 8 ≡ true → MeaningWords l w → HasWord f.agent.0 word w
+    → MeaningWords (next_worded l (stored f word)) w

@@ -8,7 +8,7 @@ use Rattle.chi_observer.specs.declared.flits.CacheFlit.{CacheFlit}
 use Rattle.chi_observer.specs.declared.flits.HomeFlit.{HomeFlit}
 use Rattle.chi_observer.specs.Copies.{Held, holds_data, is_unique, is_clean, is_dirty, same, compatible}
 use Rattle.chi_observer.specs.Copies.Copy.{Invalid, UniqueDirty}
-use Rattle.chi_observer.specs.Rules.{is_free, is_resending, are_hidden, has_word, reads_any, allows, acts, has_data, writes, tells_words, lets_go, throws, stores, leaves_any, needs_alone, makes, settles, overwrites, needs_overwriter, due_after, snooped_after, passes_duty, is_due, needs_duty, needs_quiet, is_busy, granted, fills, shows, due_granted, snooped_granted}
+use Rattle.chi_observer.specs.Rules.{is_free, is_resending, are_hidden, has_word, reads_later, allows, acts, has_data, writes, tells_words, lets_go, throws, stores, leaves_any, needs_alone, makes, settles, overwrites, needs_overwriter, due_after, snooped_after, passes_duty, is_due, needs_duty, needs_quiet, is_busy, granted, fills, shows, due_granted, snooped_granted}
 
 -- whether stores may be hidden, and what flits say by themselves: requests, snoops without an answer, whether the home has
 -- dirty data that it must write or pass on, and whether a SnpMakeInvalid was answered and no flit has shown or made the
@@ -90,9 +90,9 @@ pub record Sends (p : Public) (f : CacheFlit) (w w' : World) : Type 0 where
   pub stored : stores f.act ≡ true → w'.words f.agent.0 ≡ w'.last
   pub others : Elsewhere f.agent.0 w w'
 
--- its copy has the word of a load, or that may be any
+-- its copy has the word of a load, or that counts behind the CompAck, and a store before it
 abbrev pub reads : Public → CacheFlit → World → Bool
-reads p f w = reads_any p.stores (p.due f.agent.0) (w.state f.agent.0).copy || has_word f.act (w.words f.agent.0)
+reads p f w = reads_later p.stores (p.due f.agent.0) (w.state f.agent.0).copy || has_word f.act (w.words f.agent.0)
 
 -- f with x at n
 abbrev pub put : {A : Type 0} → ℕ → A → (ℕ → A) → ℕ → A

@@ -2,9 +2,9 @@
 
 ghost use Rattle.std.specs.Prelude.{◌≡◌, ◌<◌, ◌&&◌};
 ghost use Rattle.chi_observer.specs.Lines.{observed, watched};
-ghost use Rattle.chi_observer.specs.Counted.{CountedLoadsAreTaken, CountedLoadsLead, CountedLoadsCome, counted, may_tell, may_tell_store};
+ghost use Rattle.chi_observer.specs.Counted.{CountedLoadsAreTaken, CountedLoadsLead, CountedLoadsCome, counted, may_tell, may_tell_store, tells_store};
 
-use crate::flits::{Act, CacheFlit, Flit};
+use crate::flits::{Act, CacheFlit, Flit, Word};
 use crate::observer::{Observer, may_read};
 use crate::rules::looks;
 use chi_flit::Agent;
@@ -30,7 +30,7 @@ impl Observer {
         match flit {
             Flit::Up(sent) => match sent.act {
                 Act::Load(word) => {
-                    if self.may_tell_store(flit) && !may_read(&self.home, sent.act) {
+                    if sent.agent.0 < 32 && self.tells_store(sent.agent, word) {
                         let act = Act::Store(word);
                         Flit::Up(CacheFlit { act, ..sent })
                     } else {
@@ -41,6 +41,14 @@ impl Observer {
             },
             Flit::Down(_) => flit,
         }
+    }
+
+    /// Whether a load of this word, where the value last stored may be the home's, tells of a store which nobody saw.
+    pub(crate) fn tells_store(&self, agent: Agent, word: Word) -> bool
+        requires { agent.0 < 32 }
+        ensures { result ≡ tells_store (observed self.now) agent.0 word }
+    {
+        self.may_be_stored(agent) && !may_read(&self.home, Act::Load(word))
     }
 
     /// Whether a flit is a load that tells of a store where its word isn't the home's.

@@ -1,7 +1,7 @@
 //! Laws of the rules.
 
 ghost use Rattle.chi_observer.specs.Runs.{LegalIsAccepted, AcceptedIsLegal, AcceptedIsExact, AcceptedIsCoherent, ReadOnceShowsValue};
-ghost use Rattle.chi_observer.specs.WordedLaws.{WordedFlitsAreTaken, WordedFlitsLead, WordedHomeFlitsLead, WordsAreClosed, WordsAreHeldCalm};
+ghost use Rattle.chi_observer.specs.WordedLaws.{WordedFlitsAreTaken, WordedFlitsLead, WordedHomeFlitsLead, WordsAreClosed, StoresByWordAreTaken, StoresByWordLead};
 ghost use Rattle.chi_observer.specs.ListedRuns.{LegalWordsAreAccepted, AcceptedWordsAreLegal, AcceptedWordsAreExact, AcceptedWordsAreCoherent};
 ghost use Rattle.chi_observer.specs.Laws.{MeaningIsCoherent, MeaningIsClosed, CacheFlitsAreTaken, CacheFlitsArePossible, CacheFlitsLead, CacheFlitsTellTheValue, CacheFlitsKeepSound, MeaningComes, HomeFlitsKeepSound, HomeFlitsAreSafe, HomeFlitsLead, HomeFlitsArePossible, SafeFlitsAreTaken, MeaningComesByHome};
 
@@ -50,15 +50,16 @@ pub fn traces()
 {}
 
 /// The law that a flit of a cache that some world sends word by word is taken, and that it and one of the home lead to worlds
-/// that the known words behind it stand for too, and so do hidden steps; and that words are held against those that are known
-/// only where no copy may be stored to unseen.
+/// that the known words behind it stand for too, and so do hidden steps. Where a load counts as a store, that is taken, and each
+/// world whose copy has the word is one that it leaves.
 /// Source: `docs/OBSERVER.md`, "What is proved".
 pub fn worded_flits()
     ensures taken { WordedFlitsAreTaken }
     ensures leads { WordedFlitsLead }
     ensures given { WordedHomeFlitsLead }
     ensures closed { WordsAreClosed }
-    ensures calm { WordsAreHeldCalm }
+    ensures counted { StoresByWordAreTaken }
+    ensures stored { StoresByWordLead }
 {}
 
 /// The law of traces whose stores are all listed, word by word: one is accepted exactly where it is legal; the worlds behind

@@ -164,7 +164,7 @@ fn is_issue(flit: Flit, agent: usize) -> bool
 }
 
 /// Whether a flit of a cache is a request.
-fn is_request(act: Act) -> bool
+pub(crate) fn is_request(act: Act) -> bool
     ensures { result ≡ is_request act }
 {
     matches!(act, Act::Request(_))

@@ -1,15 +1,15 @@
 //! The observer of one line that knows words: of the value last stored those that loads and stores told.
 
 ghost use Rattle.std.specs.Prelude.{◌≡◌, ◌<◌, ◌||◌, IfErr, IfSome, None, OnErr, OnOk, Some, false, if◌then◌else◌, is_ok, not, true};
-ghost use Rattle.chi_observer.specs.Counted.{counted};
 ghost use Rattle.chi_observer.specs.Rules.{has_data};
-ghost use Rattle.chi_observer.specs.Worded.{agree, all_words, copy_words, fits_known, fits_load, fits_words, is_open, is_placed, known_words, may_be_empty, may_read_any, no_words, renewed, words_after, words_stored};
-ghost use Rattle.chi_observer.specs.WordedLines.{is_taken_worded, is_worded_reason, nothing_worded, takes_by_word, watch_by_word, watch_worded, worded_in, words_of, words_watched};
+ghost use Rattle.chi_observer.specs.Worded.{agree, all_words, copy_words, counted_load, counts_later, fits_known, fits_load, fits_words, forgets, is_open, is_placed, known_words, may_be_empty, may_read_any, no_words, renewed, tells_by_word, words_after, words_stored};
+ghost use Rattle.chi_observer.specs.WordedLines.{counted_by_word, is_taken_worded, is_worded_reason, nothing_worded, takes_by_word, watch_by_word, watch_worded, worded_in, words_of, words_watched};
 ghost use Rattle.chi_observer.specs.Lines.{agent_of, watched};
 ghost use Rattle.chi_observer.specs.Worlds.{put};
 ghost use Rattle.chi_observer.specs.declared.flits.Flit.TheVariants.{Down, Up};
 
-use crate::flits::{Act, CacheFlit, Flit, HomeFlit, Stores, Word};
+use crate::flits::{Act, CacheFlit, Due, Flit, HomeFlit, Stores, Word};
+use crate::moments::is_request;
 use crate::observer::{AgentSeen, NOBODY, Observer, Reason};
 use crate::rules::{has_data, lets_go, makes, writes};
 use crate::told::{Told, hides_stores};
@@ -124,8 +124,8 @@ impl WordedObserver {
     }
 
     /// Takes the next flit of the line. `Ok` exactly where an observer takes it, and its words, those of a load too, may be
-    /// the value last stored. Else the first rule that it breaks, the observer's own first, and nothing changes. A load that
-    /// tells of a store that nobody saw is taken as that store.
+    /// the value last stored. Else the first rule that it breaks, the observer's own first, and nothing changes. A load of
+    /// another word than the known one, of a copy that may have been stored to unseen, is taken as the store of that word.
     /// Source: `docs/OBSERVER.md`, "Words that are known".
     pub fn take(&mut self, flit: Flit) -> Result<(), Reason>
         ensures taken { is_ok result ≡ takes_by_word (words_watched self.old) flit }
@@ -133,11 +133,12 @@ impl WordedObserver {
             (words_watched self.new ≡ watch_by_word (words_watched self.old) flit) }
         ensures kept { OnErr result (self.new ≡ self.old) }
         ensures reason { IfErr result
-            (λ reason. is_worded_reason (words_watched self.old) (counted (watched self.old.seen) flit) reason ≡ true) }
+            (λ reason. is_worded_reason (words_watched self.old)
+            (counted_by_word (words_watched self.old) flit) reason ≡ true) }
     {
         match flit {
             Flit::Up(sent) => match sent.act {
-                Act::Load(_) => self.take_load(flit),
+                Act::Load(_) => self.take_load(sent),
                 Act::Request(_)
                 | Act::Resend(_)
                 | Act::SnpResp(_)
@@ -151,31 +152,46 @@ impl WordedObserver {
     }
 
     /// Takes a load, or the store as which it counts.
-    fn take_load(&mut self, flit: Flit) -> Result<(), Reason>
-        ensures taken { is_ok result ≡ takes_by_word (words_watched self.old) flit }
+    fn take_load(&mut self, sent: CacheFlit) -> Result<(), Reason>
+        ensures taken { is_ok result ≡ takes_by_word (words_watched self.old) (Up sent) }
         ensures after { OnOk result
-            (words_watched self.new ≡ watch_by_word (words_watched self.old) flit) }
+            (words_watched self.new ≡ watch_by_word (words_watched self.old) (Up sent)) }
         ensures kept { OnErr result (self.new ≡ self.old) }
         ensures reason { IfErr result
-            (λ reason. is_worded_reason (words_watched self.old) (counted (watched self.old.seen) flit) reason ≡ true) }
+            (λ reason. is_worded_reason (words_watched self.old)
+            (counted_by_word (words_watched self.old) (Up sent)) reason ≡ true) }
     {
-        let counted = self.seen.counted(flit);
-        self.take_itself(counted)
+        let counted = self.counted(sent);
+        self.take_sent(counted)
     }
 
-    /// Takes the next flit of the line, which counts as itself.
-    fn take_itself(&mut self, flit: Flit) -> Result<(), Reason>
-        ensures taken { is_ok result ≡ is_taken_worded (words_watched self.old) flit }
-        ensures after { OnOk result
-            (words_watched self.new ≡ watch_worded (words_watched self.old) flit) }
-        ensures kept { OnErr result (self.new ≡ self.old) }
-        ensures reason { IfErr result
-            (λ reason. is_worded_reason (words_watched self.old) flit reason ≡ true) }
+    /// The flit of a cache as which one counts.
+    fn counted(&self, sent: CacheFlit) -> CacheFlit
+        ensures { result ≡ counted_load sent.act (worded_in (words_watched self.now)) sent }
     {
-        match flit {
-            Flit::Up(sent) => self.take_sent(sent),
-            Flit::Down(given) => self.take_given(given),
+        match sent.act {
+            Act::Load(word) => {
+                if sent.agent.0 < 32 && self.tells_by_word(sent.agent, word) {
+                    let act = Act::Store(word);
+                    CacheFlit { act, ..sent }
+                } else {
+                    sent
+                }
+            }
+            _ => sent,
         }
+    }
+
+    /// Whether a load of this word tells of a store which nobody saw.
+    fn tells_by_word(&self, agent: Agent, word: Word) -> bool
+        requires { agent.0 < 32 }
+        ensures { result ≡ tells_by_word (worded_in (words_watched self.now)) agent.0 word }
+    {
+        if self.seen.current {
+            return self.seen.tells_store(agent, word);
+        }
+        let seen = self.seen.agents[usize::from(agent.0)];
+        (seen.reads_any(self.seen.stores) && seen.told.holds_data()) && !self.words.fits_word(word)
     }
 
     /// The words of the value last stored that are known: the home's, where it is the home's.
@@ -265,6 +281,22 @@ impl WordedObserver {
         hides_stores(self.seen.stores, agent.due) && agent.told.is_unique()
     }
 
+    /// Whether nothing is known behind a flit of a cache: there may have been a store, or there may be one unseen.
+    fn forgets(&self, sent: CacheFlit) -> bool
+        ensures { result ≡ forgets (worded_in (words_watched self.now)) sent }
+    {
+        let is_resending = matches!(self.agent(sent.agent).due, Due::Resending(_));
+        self.is_renewed(sent) || (self.is_open(sent) && (!is_resending || is_request(sent.act)))
+    }
+
+    /// Whether a load counts behind the CompAck, and so may be of a store that is done then.
+    fn counts_later(&self, sent: CacheFlit) -> bool
+        ensures { result ≡ counts_later (worded_in (words_watched self.now)) sent }
+    {
+        let agent = self.agent(sent.agent);
+        matches!(agent.due, Due::Acknowledgement) && agent.reads_any(self.seen.stores)
+    }
+
     /// Whether a load of the copy may be of any word.
     fn may_read_any(&self, sent: CacheFlit) -> bool
         ensures { result ≡ may_read_any (worded_in (words_watched self.now)) sent }
@@ -350,14 +382,14 @@ impl WordedObserver {
         }
     }
 
-    /// Those behind a flit that is neither a load nor a store: none where the copy may be stored to unseen.
+    /// Those behind a flit that is neither a load nor a store.
     fn words_but(&self, sent: CacheFlit) -> Option<KnownWords>
-        ensures kept { result ≡ None → is_open (worded_in (words_watched self.now)) sent ≡ false }
+        ensures kept { result ≡ None → forgets (worded_in (words_watched self.now)) sent ≡ false }
         ensures changed { IfSome result
-            (λ words. words_of words ≡ (if is_open (worded_in (words_watched self.now)) sent then no_words
+            (λ words. words_of words ≡ (if forgets (worded_in (words_watched self.now)) sent then no_words
             else words_of self.now.words)) }
     {
-        if self.is_open(sent) {
+        if self.forgets(sent) {
             Some(KnownWords::none())
         } else {
             None
@@ -368,17 +400,17 @@ impl WordedObserver {
     fn words_loaded(&self, sent: CacheFlit, word: Word) -> Option<KnownWords>
         requires { word.place.0 < 8 }
         ensures kept { result ≡ None → words_of self.now.words
-            ≡ (if is_open (worded_in (words_watched self.now)) sent then no_words
-            else (if may_read_any (worded_in (words_watched self.now)) sent then words_of self.now.words
+            ≡ (if forgets (worded_in (words_watched self.now)) sent then no_words
+            else (if counts_later (worded_in (words_watched self.now)) sent then words_of self.now.words
             else put word.place.0 (Some word.value) (words_of self.now.words))) }
         ensures changed { IfSome result (λ words. words_of words
-            ≡ (if is_open (worded_in (words_watched self.now)) sent then no_words
-            else (if may_read_any (worded_in (words_watched self.now)) sent then words_of self.now.words
+            ≡ (if forgets (worded_in (words_watched self.now)) sent then no_words
+            else (if counts_later (worded_in (words_watched self.now)) sent then words_of self.now.words
             else put word.place.0 (Some word.value) (words_of self.now.words)))) }
     {
-        if self.is_open(sent) {
+        if self.forgets(sent) {
             Some(KnownWords::none())
-        } else if self.may_read_any(sent) {
+        } else if self.counts_later(sent) {
             None
         } else {
             Some(self.words.with(word))

@@ -1,4 +1,5 @@
-//! What loads and stores tell of words: of each where all stores are listed; and else of a dirty copy whose request is open.
+//! What loads and stores tell of words: of each where all stores are listed; and else of a dirty copy whose request is open or
+//! was retried.
 
 use crate::flits::{NEW, NINE, OLD, SEVEN, down, up};
 use chi_flit::State::{UC, UD};
@@ -181,17 +182,60 @@ fn a_retried_request_may_be_cancelled_and_the_copy_stored_to(rt: HostRuntime) {
 }
 
 #[test]
+fn a_load_of_another_word_tells_of_that(rt: HostRuntime) {
+    let mut observer = behind_a_write_back(&rt);
+    let flits = [
+        up(0, Load(NINE), NO_DATA),
+        down(0, RetryAck, NO_DATA),
+        up(0, Load(SEVEN), NO_DATA),
+        up(0, Resend(WriteBackFull), NO_DATA),
+    ];
+    let found = last_of(&rt, &mut observer, &flits);
+    assert!(rt; found == Err(Reason::NotSent), "{found:?}");
+    let another = observer.take(up(0, Request(WriteBackFull), NO_DATA));
+    assert!(rt; another.is_ok(), "{another:?}");
+}
+
+#[test]
+fn another_request_leaves_no_words(rt: HostRuntime) {
+    let mut observer = behind_a_write_back(&rt);
+    let flits = [
+        up(0, Load(NINE), NO_DATA),
+        down(0, RetryAck, NO_DATA),
+        up(0, Request(WriteBackFull), NO_DATA),
+        up(0, Load(SEVEN), NO_DATA),
+    ];
+    let found = last_of(&rt, &mut observer, &flits);
+    assert!(rt; found.is_ok(), "{found:?}");
+}
+
+#[test]
 fn one_that_is_sent_again_leaves_the_words_of_its_copy(rt: HostRuntime) {
     let mut observer = behind_a_write_back(&rt);
     let flits = [
         up(0, Load(NINE), NO_DATA),
         down(0, RetryAck, NO_DATA),
         up(0, Resend(WriteBackFull), NO_DATA),
-        up(0, Load(NINE), NO_DATA),
         up(0, Load(SEVEN), NO_DATA),
     ];
     let found = last_of(&rt, &mut observer, &flits);
     assert!(rt; found == Err(Reason::OtherWords), "{found:?}");
+}
+
+#[test]
+fn a_load_meanwhile_tells_its_word(rt: HostRuntime) {
+    let mut observer = behind_a_write_back(&rt);
+    let flits = [
+        down(0, RetryAck, NO_DATA),
+        up(0, Load(NINE), NO_DATA),
+        up(0, Resend(WriteBackFull), NO_DATA),
+        down(0, CompDBIDResp, NO_DATA),
+        up(0, CopyBackWrData(UD), OLD),
+    ];
+    let found = last_of(&rt, &mut observer, &flits);
+    assert!(rt; found == Err(Reason::OtherWords), "{found:?}");
+    let written = observer.take(up(0, CopyBackWrData(UD), NEW));
+    assert!(rt; written.is_ok(), "{written:?}");
 }
 
 #[test]

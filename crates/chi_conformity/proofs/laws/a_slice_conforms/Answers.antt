@@ -9,7 +9,6 @@ returns c =
       taken = c.cache_flits.ensures.taken;
       leads = c.cache_flits.ensures.leads;
       tells = c.cache_flits.ensures.tells;
-      calm = c.worded_flits.ensures.calm;
       kept = c.cache_flits.ensures.sound;
       counted_taken = c.counted_loads.ensures.taken;
       counted_lead = c.counted_loads.ensures.leads;

@@ -1,4 +1,4 @@
-use Rattle.chi_observer.proofs.WordedCalm.{held_calm}
+use Rattle.chi_observer.proofs.WordedCounted.{stores_lead, stores_taken}
 use Rattle.chi_observer.proofs.WordedGiven.{words_closed, words_lead_home}
 use Rattle.chi_observer.proofs.WordedSent.{words_lead, words_taken}
 use Rattle.chi_observer.proofs.laws.worded_flits.Goals as goal
@@ -15,5 +15,8 @@ returns-clause-given c = words_lead_home
 pub returns-clause-closed : goal.returns-clause-closed
 returns-clause-closed c = words_closed
 
-pub returns-clause-calm : goal.returns-clause-calm
-returns-clause-calm c = held_calm
+pub returns-clause-counted : goal.returns-clause-counted
+returns-clause-counted c = stores_taken
+
+pub returns-clause-stored : goal.returns-clause-stored
+returns-clause-stored c = stores_lead
