@@ -443,13 +443,14 @@ ruleset n: agent; a: answer; v: value do
   ==>
   var throws: boolean;
   var renewed: boolean;
-  var others: boolean;
+  var others: boolean;  -- its word is known to be another than the value: than the home's, or than the one that was loaded
   begin
     throws := lanes[n].snooped = SnpMakeInvalid;
     renewed := hidden & may_be_free(lanes[n].due) & is_unique(strongest(lanes[n].told)) & (tells_dirty(a) | throws);
-    others := shows(a) & current & !fits(lanes[n].word);
-    assert "an answer is taken" may_give(a, n) & (!others | renewed) & (!shows(a) | renewed | fits_stored(lanes[n].word));
+    others := shows(a) & (current ? !fits(lanes[n].word) : !fits_stored(lanes[n].word));
+    assert "an answer is taken" may_give(a, n) & (!others | renewed);
     forget_word(n, renewed, false);
+    -- (of a copy that was told UD another word alone tells of a cancel)
     if hidden & lanes[n].due = Resending & tells_dirty(a) & is_unique(strongest(lanes[n].told))
         & (others | lanes[n].told != ToldUD) then
       lanes[n].surely := true;

@@ -8,11 +8,10 @@ own copy, it is safe in every world with that value. Nothing of what the observe
 A flit is a tuple: ("cache" or "home", the agent, what it does, and with which words). A load and a store are flits of a
 cache with a place in the line and a word. A load leaves the worlds whose copy has its word. Where stores may be hidden it is
 of one place, which has another word in each value; of a unique copy whose CompAck is due it leaves besides those that a
-store behind that makes. What a store writes isn't learnt then, nor that an answer tells of a cancel by other words than
-loads did. Where all stores are listed no hidden step is a store, and a value is made of its words, two for each place: a
-store makes its word, and keeps those of the other places where the copy has data. Besides these a value has a part of two
-that no load and no store names, of which flits show the first alone: behind a store it is any, so only data show that the
-home has the value.
+store behind that makes. What a store writes isn't learnt then. Where all stores are listed no hidden step is a store, and a
+value is made of its words, two for each place: a store makes its word, and keeps those of the other places where the copy
+has data. Besides these a value has a part of two that no load and no store names, of which flits show the first alone:
+behind a store it is any, so only data show that the home has the value.
 """
 
 from collections import defaultdict
@@ -175,20 +174,12 @@ class Line:
         if not snoop or copy == WRITING or form not in ANSWERS[snoop][copy].split():
             return None
         if value not in (None, world.last):
-            if not self.may_show_any(world, agent):
-                return None
-            world = world._replace(last=value)
+            return None
         if copy == "UCE" and left == "UC":
             left = "UCE"
         lost = snoop == "SnpMakeInvalid" and copy in ("UD", "SD") and world.home != world.last
         return world._replace(copies=put(world.copies, agent, left), home=world.home if value is None else value,
                               void=world.void or lost)
-
-    def may_show_any(self, world, agent):
-        """Whether an answer of other words isn't held against a request that was retried: data haven't shown the value."""
-        request = world.requests[agent]
-        waits = request and request.phase == "retried" and world.copies[agent] == "UD"
-        return waits and not self.listed and world.last >= self.values
 
     def write(self, world, agent, form, value):
         request, copy = world.requests[agent], world.copies[agent]

@@ -36,20 +36,19 @@ use Rattle.chi_observer.specs.Copies.{Held, holds_data}
 use Rattle.chi_observer.specs.Copies.Copy.{Invalid}
 use Rattle.chi_observer.specs.declared.flits.Flit.{Flit}
 use Rattle.chi_observer.specs.declared.flits.Stores.{Stores}
-use Rattle.chi_observer.specs.Lines.{is_taken, watch}
-use Rattle.chi_observer.specs.WordedLines.{WatchedWords, counted_by_word, nothing_worded, watch_by_word}
+use Rattle.chi_observer.specs.WordedLines.{WatchedWords, nothing_worded, watch_by_word}
 use Rattle.chi_observer.specs.Rules.{plain}
 use Rattle.chi_observer.specs.Runs.{nothing_told}
 use Rattle.chi_observer.specs.Tables.{reach}
-use Rattle.chi_conformity.specs.Conformity.{AreTaken, AreTakenByWord, SlicesConform, SlicesConformByWord, done_seen, run_seen}
+use Rattle.chi_conformity.specs.Conformity.{AreTaken, SlicesConform, done_seen, run_seen}
 use Rattle.chi_conformity.specs.Seen.{snoop_seen, step_seen}
 use Rattle.chi_conformity.proofs.Held.{DueIs, Stands, held, held_of}
 use Rattle.chi_conformity.proofs.Flits.{Laws}
 use Rattle.chi_conformity.proofs.Put.{differ}
-use Rattle.chi_conformity.proofs.Counted.{TakenAlike, step_follows_by_word}
+use Rattle.chi_conformity.proofs.Counted.{IsCounted, step_follows_by_word}
 use Rattle.chi_conformity.proofs.Words.{StandsByWord}
 use Rattle.chi_conformity.proofs.Taken.{AllTaken, FollowsBy, taken_more}
-use Rattle.chi_conformity.proofs.Told.{left, no}
+use Rattle.chi_conformity.proofs.Told.{no}
 
 -- THE VALUES LAST STORED
 fits_journal : (log : Log) (entry : Option Record) → CanAppend log entry → length log.words ≡ log.lines → FitsJournal log entry
@@ -174,35 +173,16 @@ opening_long : (config : Sizes) (index l : ℕ) → is_line_in_range (opening_sl
 opening_long config index l here = words_long (nat_lt 0 config.journal) config.lines l (inside (opening_slice config index) l here).low
 
 -- EACH RUN
-abbrev AllAlike : WatchedWords → List Flit → Type 0
-AllAlike w flits = AllTaken TakenAlike watch_by_word w flits
+all_taken : (flits : List Flit) (w : WatchedWords) → AllTaken IsCounted watch_by_word w flits → AreTaken w flits
+all_taken [] w taken = tt
+all_taken (flit ∷ flits) w taken = (taken.0, all_taken flits (watch_by_word w flit) taken.1)
 
-run_alike : Laws → (z : Stores) (config : Sizes) (index : ℕ) (actions : List Action) (l : ℕ) → are_in_limits config ≡ true → index < config.slices
-    → is_line_in_range (opening_slice config index) l ≡ true → AllAlike (nothing_worded z) (run_seen (opening_slice config index) actions l)
-run_alike laws z config index actions l limits within here =
-    run_taken TakenAlike watch_by_word StandsByWord
+pub conform : Laws → SlicesConform
+conform laws z config index actions l limits within here =
+    all_taken (run_seen (opening_slice config index) actions l) (nothing_worded z)
+    (run_taken IsCounted watch_by_word StandsByWord
     (step_follows_by_word laws)
     actions l (opening_slice config index) (nothing_worded z) (opening_kept config index limits within) here (
       opening_line_stands z config index l limits within here,
       record { long = opening_long config index l here; words = λ c. no (sym c) },
-    )
-
-taken_by_word : (flits : List Flit) (w : WatchedWords) → AllAlike w flits → AreTakenByWord w flits
-taken_by_word [] w taken = tt
-taken_by_word (flit ∷ flits) w taken = (taken.0.0, taken_by_word flits (watch_by_word w flit) taken.1)
-
-pub conform_by_word : Laws → SlicesConformByWord
-conform_by_word laws z config index actions l limits within here =
-    taken_by_word (run_seen (opening_slice config index) actions l) (nothing_worded z) (run_alike laws z config index actions l limits within here)
-
--- who keeps no words takes it too
-taken_besides : (flits : List Flit) (w : WatchedWords) → AllAlike w flits → AreTaken w.line flits
-taken_besides [] w taken = tt
-taken_besides (flit ∷ flits) w taken = (
-  ap (is_taken w.line) (sym taken.0.1) ∙ left (is_taken w.line (counted_by_word w flit)) _ taken.0.0,
-  subst (λ (e : Flit). AreTaken (watch w.line e) flits) taken.0.1 (taken_besides flits (watch_by_word w flit) taken.1),
-)
-
-pub conform : Laws → SlicesConform
-conform laws z config index actions l limits within here =
-    taken_besides (run_seen (opening_slice config index) actions l) (nothing_worded z) (run_alike laws z config index actions l limits within here)
+    ))

@@ -1,5 +1,5 @@
 -- The words that loads and stores told are words of the value last stored, so who keeps them takes all that another takes.
-use Rattle.std.proofs.Common.{◌≡◌, ℕ, ◌<◌, List, [], ◌∷◌, refl, sym, subst, ◌∙◌, set, length}
+use Rattle.std.proofs.Common.{◌≡◌, ℕ, ◌<◌, List, [], ◌∷◌, refl, sym, ap, subst, ◌∙◌, set, length}
 use Rattle.std.specs.Prelude.{Bool, true, false, ◌==◌, ◌&&◌, ◌||◌, not, nat_lt, Some, if◌then◌else◌}
 use Rattle.std.proofs.lemmas.Bool.{or_parts}
 use Rattle.std.proofs.lemmas.List.{get_or-set_same, get_or-set_other, length-set}
@@ -19,9 +19,9 @@ use Rattle.chi_observer.specs.declared.flits.Flit.{Flit}
 use Rattle.chi_observer.specs.declared.flits.Flit.TheVariants.{Up, Down}
 use Rattle.chi_observer.specs.Rules.{are_hidden, has_data, makes, settles, tells_words, word_at, writes}
 use Rattle.chi_observer.specs.Worlds.{put}
-use Rattle.chi_observer.specs.Observed.{Observed, next}
+use Rattle.chi_observer.specs.Observed.{Observed, differs, next, next_as}
 use Rattle.chi_observer.specs.Lines.{is_taken, watch}
-use Rattle.chi_observer.specs.Worded.{Words, agree, all_words, counts_later, fits_known, fits_load, forgets, is_placed, known_words, may_be_empty, may_read_any, no_words, renewed, words_by, words_stored}
+use Rattle.chi_observer.specs.Worded.{Words, agree, all_words, counts_later, differs_by_word, fits_known, fits_load, forgets, is_placed, known_words, may_be_empty, may_read_any, no_words, renewed, words_by, words_stored}
 use Rattle.chi_observer.specs.WordedLines.{WatchedWords, is_taken_worded, worded_in, watch_worded}
 use Rattle.chi_observer.proofs.ListedWords.{agree_at}
 use Rattle.chi_observer.proofs.WordedSent.{home_agrees, put_agrees}
@@ -221,6 +221,18 @@ pub not_access : (b : Bool) → not b ≡ true → b ≡ false
 not_access true h = no h
 not_access false h = refl
 
+-- its data are as known
+as_known : (w : WatchedWords) (f : CacheFlit) (last : List ℕ) (s : LineState) → Knows last w → Stands last s (next w.line.seen f) → differs_by_word (worded_in w) f ≡ false
+as_known w f last s k stands = go (has_data f.act) w.line.seen.current refl refl
+  where
+    go : (b c : Bool) → has_data f.act ≡ b → w.line.seen.current ≡ c → (b && (not c && not (agree w.words f.shown))) ≡ false
+    go false c shows e = refl
+    go true true shows e = refl
+    go true false shows e = ap not (subst (λ (v : List ℕ). agree w.words v ≡ true) (shown_last w.line.seen f last s stands shows) (k.words e))
+
+stands_as : (w : WatchedWords) (f : CacheFlit) (last : List ℕ) (s : LineState) → Knows last w → Stands last s (next w.line.seen f) → Stands last s (watch_worded w (Up f)).line.seen
+stands_as w f last s k stands = subst (λ (b : Bool). Stands last s (next_as w.line.seen f (b || differs w.line.seen f))) (sym (as_known w f last s k stands)) stands
+
 pub plain_follows : (flits : List Flit) (w : WatchedWords) (last : List ℕ) (s : LineState) → is_plain flits ≡ true → Knows last w → Follows last s w.line flits → FollowsByWord last s w flits
 plain_follows [] w last s plain k follows = (follows, k)
 plain_follows (Down g ∷ flits) w last s plain k follows =
@@ -228,5 +240,5 @@ plain_follows (Down g ∷ flits) w last s plain k follows =
     (t.0, plain_follows flits (watch_worded w (Down g)) last s plain t.1 follows.1)
 plain_follows (Up f ∷ []) w last s plain k follows =
     let t = up_known w f last s (not_access (is_access f.act) plain) k follows.0 follows.1 in
-    (t.0, (follows.1, t.1))
+    (t.0, (stands_as w f last s k follows.1, t.1))
 plain_follows (Up f ∷ flit ∷ flits) w last s plain k follows = no plain

@@ -1,7 +1,6 @@
 -- Data in beats beside whole data in the place of their first beat.
 use Rattle.std.proofs.Common.{rules, arith, ◌≡◌, ◌≢◌, ◌==◌, ℕ, List, refl, sym, ap, subst, ◌∙◌, true≢false}
-use Rattle.std.specs.Prelude.{Bool, true, false, ◌&&◌, ◌||◌, not, nat_lt, nat_eq, Option, Some, None, is_some, option_map, unwrap_or, [], ◌∷◌, ◌++◌, if◌then◌else◌}
-use Rattle.std.specs.List.{slice_index_or}
+use Rattle.std.specs.Prelude.{Bool, true, false, ◌&&◌, ◌||◌, not, nat_lt, nat_eq, Option, Some, None, is_some, option_map, [], ◌∷◌, ◌++◌, if◌then◌else◌}
 use Rattle.std.specs.Cmp.Lexicographic.{pointwise}
 use Rattle.chi_trace.specs.declared.fields.NodeId.{NodeId}
 use Rattle.chi_flit.specs.declared.numbers.Agent.{Agent}
@@ -13,13 +12,12 @@ use Rattle.chi_observer.specs.declared.wanted.Wanted.{Wanted}
 use Rattle.chi_observer.specs.declared.wanted.Wanted.TheVariants as wants
 use Rattle.chi_observer.specs.Rules.{are_hidden, gives_data, has_data, lets_go, looks, stores, tells_words}
 use Rattle.chi_observer.specs.Tables.{renews, shows_told}
-use Rattle.chi_observer.specs.Worlds.{all_below}
-use Rattle.chi_observer.specs.Worded.{Words, agree, fits_known}
-use Rattle.chi_observer.specs.WordedLines.{WatchedWords, takes_by_word, watch_by_word}
+use Rattle.chi_observer.specs.Worded.{agree}
+use Rattle.chi_observer.specs.WordedLines.{WatchedWords, takes_by_word, watch_by_word, worded_in}
 use Rattle.chi_observer.specs.Observed.{fits}
-use Rattle.chi_observer.specs.Lines.{Watched, is_taken}
+use Rattle.chi_observer.specs.Lines.{Watched}
 use Rattle.chi_observer.specs.Counted.{may_tell, may_tell_store}
-use Rattle.chi_observer.specs.Wanted.{AnyWordsAreTaken, FreeWordsAreTaken, KnownWordsAreTaken, WordlessFlitsAreApart, flit_with, flit_words, homed, is_listed_store, is_wordless, reads_home, tells_cancelled, wanted, wanted_given, wanted_if, wanted_sent, wanted_words, with_home}
+use Rattle.chi_observer.specs.Wanted.{FreeWordsAreTaken, KnownWordsAreTaken, WordlessFlitsAreApart, flit_with, flit_words, homed, is_listed_store, is_wordless, reads_home, tells_cancelled, wanted, wanted_given, wanted_if, wanted_sent, with_home}
 use Rattle.chi_observer.proofs.DataInBeats.{either_way, wanted_as}
 use Rattle.chi_observe.specs.declared.ids.Later.{Later}
 use Rattle.chi_observe.specs.declared.ids.Later.TheVariants as laters
@@ -29,26 +27,26 @@ use Rattle.chi_observe.specs.declared.lines.LineNews.{LineNews}
 use Rattle.chi_observe.specs.declared.lines.LineNews.TheVariants as news
 use Rattle.chi_observe.specs.Judges.{Before, Judged, known_if}
 use Rattle.chi_observe.specs.Judges.Judged.{FromStart}
-use Rattle.chi_observe.specs.Lacking.{lacking_shown, lacking_with, may_show}
-use Rattle.chi_observe.specs.Lines.{LineState, apart_of, begun_next, early_by, early_of, flit_next, heard_by, is_given, is_passed, is_wanted_free, is_wanted_known, lacks_of, line_next, marked_words, next_by, presented, put_aside, shown_more, shown_next, shown_words, showing_by, takes_begun, takes_flit, takes_line, wanted_of, with_shown}
+use Rattle.chi_observe.specs.Lacking.{lacking_shown, may_show}
+use Rattle.chi_observe.specs.Lines.{LineState, apart_of, early_by, early_of, flit_next, heard_by, is_given, is_passed, is_wanted_free, is_wanted_known, lacks_of, line_next, marked_words, next_by, presented, put_aside, shown_next, shown_words, showing_by, takes_flit, takes_line, wanted_of, with_shown}
 use Rattle.chi_observe.specs.Marks.{Marked, marks_after, shows_words}
-use Rattle.chi_observe.specs.InBeats.{AreAlike, BeatsAreOneFlit, all_wordless, behind_all, in_one, in_two, is_told_any, judged_line, takes_all, told_of}
-use Rattle.chi_observe.specs.Words.{agrees, agrees_at, agrees_word, but_known, lacks_some, left_of, none_lack, with_known, word_at, word_with, words_with}
+use Rattle.chi_observe.specs.InBeats.{AreAlike, all_wordless, behind_all, in_one, in_two, judged_line, takes_all, told_of}
+use Rattle.chi_observe.specs.Words.{lacks_some, left_of, words_with}
 use Rattle.chi_observe.proofs.EqualFlits.{words as same_words}
 
 -- marks
-untrue : {A : Type 0} → false ≡ true → A
+pub untrue : {A : Type 0} → false ≡ true → A
 untrue h = absurd (true≢false (sym h))
 
-both_left : (a b : Bool) → (a && b) ≡ true → a ≡ true
+pub both_left : (a b : Bool) → (a && b) ≡ true → a ≡ true
 both_left true b h = refl
 both_left false b h = untrue h
 
-both : (a b : Bool) → a ≡ true → b ≡ true → (a && b) ≡ true
+pub both : (a b : Bool) → a ≡ true → b ≡ true → (a && b) ≡ true
 both true b h e = e
 both false b h e = h
 
-both_right : (a b : Bool) → (a && b) ≡ true → b ≡ true
+pub both_right : (a b : Bool) → (a && b) ≡ true → b ≡ true
 both_right true b h = h
 both_right false b h = untrue h
 
@@ -65,19 +63,19 @@ turned : (a : Bool) → not a ≡ true → a ≡ false
 turned true h = sym h
 turned false h = refl
 
-shut : (a b : Bool) → b ≡ false → (a && b) ≡ false
+pub shut : (a b : Bool) → b ≡ false → (a && b) ≡ false
 shut true b h = h
 shut false b h = refl
 
-opened : (a b : Bool) → b ≡ true → (a && b) ≡ a
+pub opened : (a b : Bool) → b ≡ true → (a && b) ≡ a
 opened true b h = h
 opened false b h = refl
 
-and_true : (a : Bool) → (a && true) ≡ a
+pub and_true : (a : Bool) → (a && true) ≡ a
 and_true true = refl
 and_true false = refl
 
-grouped : (a b c : Bool) → (a && (b && c)) ≡ ((a && b) && c)
+pub grouped : (a b c : Bool) → (a && (b && c)) ≡ ((a && b) && c)
 grouped true b c = refl
 grouped false b c = refl
 
@@ -85,20 +83,20 @@ by_bool : {P : Type 0} (b : Bool) → (b ≡ true → P) → (b ≡ false → P)
 by_bool true up down = up refl
 by_bool false up down = down refl
 
-any_is_wanted : wants.Any ≢ wants.Nothing
+pub any_is_wanted : wants.Any ≢ wants.Nothing
 any_is_wanted h = search (rules, arith)
 
 known_is_wanted : wants.Known ≢ wants.Nothing
 known_is_wanted h = search (rules, arith)
 
 -- one part of what a line is told after the other
-takes_both : (before : Before) (home : NodeId) (s : LineState) (xs ys : List (ℕ × LineNews)) → takes_all before home s (xs ++ ys) ≡ (takes_all before home s xs && takes_all before home (behind_all before s xs) ys)
+pub takes_both : (before : Before) (home : NodeId) (s : LineState) (xs ys : List (ℕ × LineNews)) → takes_all before home s (xs ++ ys) ≡ (takes_all before home s xs && takes_all before home (behind_all before s xs) ys)
 takes_both before home s [] ys = refl
 takes_both before home s (x ∷ xs) ys =
     ap (λ (b : Bool). takes_line before s home x.0 x.1 && b) (takes_both before home (line_next before s x.0 x.1) xs ys)
     ∙ grouped (takes_line before s home x.0 x.1) (takes_all before home (line_next before s x.0 x.1) xs) (takes_all before home (behind_all before (line_next before s x.0 x.1) xs) ys)
 
-behind_both : (before : Before) (s : LineState) (xs ys : List (ℕ × LineNews)) → behind_all before s (xs ++ ys) ≡ behind_all before (behind_all before s xs) ys
+pub behind_both : (before : Before) (s : LineState) (xs ys : List (ℕ × LineNews)) → behind_all before s (xs ++ ys) ≡ behind_all before (behind_all before s xs) ys
 behind_both before s [] ys = refl
 behind_both before s (x ∷ xs) ys = behind_both before (line_next before s x.0 x.1) xs ys
 
@@ -121,8 +119,8 @@ ungiven true false other k h = refl
 ungiven true true other k h = untrue (sym h)
 ungiven false gives other k h = refl
 
-wants_none : (y : Watched) (f : Flit) → is_wordless f ≡ true → is_wanted_known (wanted y f) ≡ false
-wants_none y (Up f) w = unsent (nat_lt f.agent.0 32) (tells_words f.act) (tells_cancelled y.seen f) _ (no_left (tells_words f.act) (looks f.act) w)
+wants_none : (y : WatchedWords) (f : Flit) → is_wordless f ≡ true → is_wanted_known (wanted y f) ≡ false
+wants_none y (Up f) w = unsent (nat_lt f.agent.0 32) (tells_words f.act) (tells_cancelled (worded_in y) f) _ (no_left (tells_words f.act) (looks f.act) w)
 wants_none y (Down g) w = ungiven (nat_lt g.agent.0 32) (gives_data g.grant) _ _ (turned (gives_data g.grant) w)
 
 unread : (reach look any : Bool) → look ≡ false → (reach && (look && any)) ≡ false
@@ -137,29 +135,29 @@ tells_none : (y : Watched) (f : Flit) → is_wordless f ≡ true → may_tell y 
 tells_none y (Up f) w = unread (nat_lt f.agent.0 32) (looks f.act) (may_tell_store y.seen f.agent.0) (no_right (tells_words f.act) (looks f.act) w)
 tells_none y (Down g) w = refl
 
-shows_nothing : (y : Watched) (f : Flit) → is_wordless f ≡ true → (is_wanted_known (wanted y f) || reads_home y f) ≡ false
+shows_nothing : (y : WatchedWords) (f : Flit) → is_wordless f ≡ true → (is_wanted_known (wanted y f) || reads_home y.line f) ≡ false
 shows_nothing y f w =
     let known = wants_none y f w in
-    let read = reads_none y f w in
+    let read = reads_none y.line f w in
     λ i. known i || read i
 
 -- a line that is judged, but for its marks: the home has these words beside what else is told
-abbrev line_of : NodeId → Lacking → List ℕ → WatchedWords → Marked → LineState
+abbrev pub line_of : NodeId → Lacking → List ℕ → WatchedWords → Marked → LineState
 line_of h l v y m = record { home = h; aside = false; lacking = l; told = FromStart (homed v y); marks = m }
 
 -- where stores may be hidden no store is kept
-abbrev hides : WatchedWords → Bool
+abbrev pub hides : WatchedWords → Bool
 hides y = are_hidden y.line.seen.public.stores
 
 unlisted : (y : WatchedWords) (f : Flit) → hides y ≡ true → is_listed_store y f ≡ false
 unlisted y (Up f) q = ap (λ (b : Bool). not b && stores f.act) q
 unlisted y (Down g) q = refl
 
-same_mode : (y : WatchedWords) (f : Flit) → hides (watch_by_word y f) ≡ hides y
+pub same_mode : (y : WatchedWords) (f : Flit) → hides (watch_by_word y f) ≡ hides y
 same_mode y (Up f) = refl
 same_mode y (Down g) = refl
 
-record Runs (s : LineState) (h : NodeId) (l : Lacking) (v : List ℕ) (y : WatchedWords) : Type 0 where
+pub record Runs (s : LineState) (h : NodeId) (l : Lacking) (v : List ℕ) (y : WatchedWords) : Type 0 where
   pub marks : Marked
   pub is : s ≡ line_of h l v y marks
   pub hidden : hides y ≡ true
@@ -181,7 +179,7 @@ is_early other = true
 not_showing : (l : Lacking) (h : NodeId) (v : List ℕ) (y : WatchedWords) (m : Marked) (f : Flit) → is_wordless f ≡ true → showing_by l (line_of h l v y m) f ≡ false
 not_showing lacks.Nothing h v y m f w = refl
 not_showing lacks.Data h v y m f w = refl
-not_showing (lacks.Words unknown others had) h v y m f w = ap (λ (b : Bool). b && may_show (lacks.Words unknown others had) (is_given f) (lacks_of f)) (shows_nothing (with_home v y.line) f w)
+not_showing (lacks.Words unknown others had) h v y m f w = ap (λ (b : Bool). b && may_show (lacks.Words unknown others had) (is_given f) (lacks_of f)) (shows_nothing (homed v y) f w)
 
 goes_apart : (l : Lacking) (h : NodeId) (v : List ℕ) (y : WatchedWords) (m : Marked) (f : Flit) → is_early l ≡ true → is_wordless f ≡ true → hides y ≡ true → apart_of l (line_of h l v y m) f ≡ true
 goes_apart lacks.Nothing h v y m f e w q = refl
@@ -198,7 +196,7 @@ heard_same (lacks.Words unknown others had) h v y m f w =
     let s = line_of h (lacks.Words unknown others had) v y m in
     ap (λ (b : Bool). if b && lacks_some (left_of unknown (lacks_of f)) then presented s f (lacks_of f) else f) (tells_none (with_home v y.line) f w)
 
-passed_by : (b : Bool) (t : Judged) → is_passed (known_if b t) ≡ b
+pub passed_by : (b : Bool) (t : Judged) → is_passed (known_if b t) ≡ b
 passed_by true t = refl
 passed_by false t = refl
 
@@ -242,7 +240,7 @@ runs_step apart before h l v y s n f e w r = record {
 }
 
 -- and all of them
-abbrev through : WatchedWords → List (ℕ × Flit) → WatchedWords
+abbrev pub through : WatchedWords → List (ℕ × Flit) → WatchedWords
 through y [] = y
 through y (p ∷ ps) = through (behind_it y p.1) ps
 
@@ -250,7 +248,7 @@ abbrev taken_through : NodeId → NodeId → WatchedWords → List (ℕ × Flit)
 taken_through h home y [] = true
 taken_through h home y (p ∷ ps) = (h.0 == home.0 && takes_by_word y p.1) && taken_through h home (behind_it y p.1) ps
 
-all_taken : WordlessFlitsAreApart → (before : Before) (home h : NodeId) (l : Lacking) (v : List ℕ) → is_early l ≡ true
+pub all_taken : WordlessFlitsAreApart → (before : Before) (home h : NodeId) (l : Lacking) (v : List ℕ) → is_early l ≡ true
     → (ps : List (ℕ × Flit)) → all_wordless ps ≡ true → (s : LineState) (y : WatchedWords) → Runs s h l v y → takes_all before home s (told_of ps) ≡ taken_through h home y ps
 all_taken apart before home h l v e [] w s y r = refl
 all_taken apart before home h l v e (p ∷ ps) w s y r =
@@ -259,7 +257,7 @@ all_taken apart before home h l v e (p ∷ ps) w s y r =
     let rest = all_taken apart before home h l v e ps (both_right (is_wordless p.1) (all_wordless ps) w) (line_next before s p.0 (news.Flit (Some p.1))) (behind_it y p.1) (runs_step apart before h l v y s p.0 p.1 e own r) in
     λ i. here i && rest i
 
-all_run : WordlessFlitsAreApart → (before : Before) (h : NodeId) (l : Lacking) (v : List ℕ) → is_early l ≡ true
+pub all_run : WordlessFlitsAreApart → (before : Before) (h : NodeId) (l : Lacking) (v : List ℕ) → is_early l ≡ true
     → (ps : List (ℕ × Flit)) → all_wordless ps ≡ true → (s : LineState) (y : WatchedWords) → Runs s h l v y → Runs (behind_all before s (told_of ps)) h l v (through y ps)
 all_run apart before h l v e [] w s y r = r
 all_run apart before h l v e (p ∷ ps) w s y r =
@@ -275,27 +273,27 @@ with_own : (e : Flit) → flit_with e (flit_words e) ≡ e
 with_own (Up f) = refl
 with_own (Down g) = refl
 
-record IsData (e : Flit) : Type 0 where
+pub record IsData (e : Flit) : Type 0 where
   pub words : shown_words e ≡ flit_words e
   pub shown : (v : List ℕ) → with_shown e v ≡ flit_with e v
   pub all : (v : List ℕ) → shown_words (flit_with e v) ≡ v
 
-data_of : (n : Agent) (act : Act) (v : List ℕ) (w : Watched) → wanted w (Up (record { agent = n; act = act; shown = v })) ≢ wants.Nothing → IsData (Up (record { agent = n; act = act; shown = v }))
+data_of : (n : Agent) (act : Act) (v : List ℕ) (w : WatchedWords) → wanted w (Up (record { agent = n; act = act; shown = v })) ≢ wants.Nothing → IsData (Up (record { agent = n; act = act; shown = v }))
 data_of n (Load word) v w some = absurd (some (either_way (nat_lt n.0 32)))
 data_of n act v w some = record { words = refl; shown = λ u. refl; all = λ u. refl }
 
-is_data : (w : Watched) (e : Flit) → wanted w e ≢ wants.Nothing → IsData e
+pub is_data : (w : WatchedWords) (e : Flit) → wanted w e ≢ wants.Nothing → IsData e
 is_data w (Up f) some = data_of f.agent f.act f.shown w some
 is_data w (Down g) some = record { words = refl; shown = λ u. refl; all = λ u. refl }
 
 -- where one is no more taken than the other
-neither : (before : Before) (home : NodeId) (s : LineState) (one other : List (ℕ × LineNews)) → takes_all before home s one ≡ false → takes_all before home s other ≡ false → AreAlike before home s one other
+pub neither : (before : Before) (home : NodeId) (s : LineState) (one other : List (ℕ × LineNews)) → takes_all before home s one ≡ false → takes_all before home s other ≡ false → AreAlike before home s one other
 neither before home s one other a b = record {
   taken = a ∙ sym b;
   told = λ h. absurd (true≢false (sym h ∙ a));
 }
 
-takes_whole : (before : Before) (own home : NodeId) (w : WatchedWords) (m : Marked) (n : ℕ) (e : Flit) → takes_line before (judged_line own w m) home n (news.Flit (Some e)) ≡ (own.0 == home.0 && takes_by_word w e)
+pub takes_whole : (before : Before) (own home : NodeId) (w : WatchedWords) (m : Marked) (n : ℕ) (e : Flit) → takes_line before (judged_line own w m) home n (news.Flit (Some e)) ≡ (own.0 == home.0 && takes_by_word w e)
 unfolding takes_line
 takes_whole before own home w m n e = ap (λ (b : Bool). own.0 == home.0 && b) (passed_by (takes_by_word w e) (FromStart (watch_by_word w e)))
 
@@ -407,17 +405,17 @@ known_by : (k : Bool) → wanted_if k ≡ wants.Known → k ≡ true
 known_by true h = refl
 known_by false h = absurd (search (rules, arith))
 
-known_home : (w : Watched) (e : Flit) → wanted w e ≡ wants.Known → is_some w.seen.home ≡ true
+known_home : (w : WatchedWords) (e : Flit) → wanted w e ≡ wants.Known → is_some w.line.seen.home ≡ true
 known_home w (Up f) h =
-    let o = w.seen in
+    let o = w.line.seen in
     let n = f.agent.0 in
     let renewed = renews o.public.stores f.act (lets_go (o.public.snooped n)) (o.public.due n) (o.told n) in
     let k = has_data f.act && (not renewed && (o.current && is_some o.home)) in
-    let sent = (reach (nat_lt n 32) (wanted_sent o f) wants.Known h known_is_wanted).1 in
-    let yes = known_by k (unbarred (not (tells_words f.act) || tells_cancelled o f) (wanted_if k) wants.Known sent known_is_wanted) in
+    let sent = (reach (nat_lt n 32) (wanted_sent (worded_in w) f) wants.Known h known_is_wanted).1 in
+    let yes = known_by k (unbarred (not (tells_words f.act) || tells_cancelled (worded_in w) f) (wanted_if k) wants.Known sent known_is_wanted) in
     both_right o.current (is_some o.home) (both_right (not renewed) (o.current && is_some o.home) (both_right (has_data f.act) (not renewed && (o.current && is_some o.home)) yes))
 known_home w (Down g) h =
-    let o = w.seen in
+    let o = w.line.seen in
     let given = (reach (nat_lt g.agent.0 32) (wanted_given o g) wants.Known h known_is_wanted).1 in
     known_by (is_some o.home) (given_reach (shows_told g.grant (o.told g.agent.0)) (gives_data g.grant) (wanted_if (is_some o.home)) given)
 
@@ -429,11 +427,11 @@ each_home None h give = untrue h
 each_home (Some u) h give = give u refl
 
 -- what is held against the later beats says what the data in beats are told as
-abbrev Alike : Before → NodeId → NodeId → WatchedWords → Marked → ℕ → ℕ → Flit → List Bool → List ℕ → List (ℕ × Flit) → Option (Later × List ℕ) → Type 0
+abbrev pub Alike : Before → NodeId → NodeId → WatchedWords → Marked → ℕ → ℕ → Flit → List Bool → List ℕ → List (ℕ × Flit) → Option (Later × List ℕ) → Type 0
 Alike before own home w m n k e lacking words ps early = AreAlike before home (judged_line own w m) (in_two early n k e lacking words (told_of ps)) (in_one n e words ps)
 
 of_held : KnownWordsAreTaken → (before : Before) (own home : NodeId) (w : WatchedWords) (m : Marked) (n k : ℕ) (e : Flit) (lacking : List Bool) (words u : List ℕ) (ps : List (ℕ × Flit)) (same : Bool)
-    → wanted w.line e ≡ wants.Known → w.line.seen.home ≡ Some u → IsData e → words_with (flit_words e) words lacking ≡ words
+    → wanted w e ≡ wants.Known → w.line.seen.home ≡ Some u → IsData e → words_with (flit_words e) words lacking ≡ words
     → pointwise nat_eq (words_with (shown_words e) u lacking) words ≡ same
     → AreAlike before home (judged_line own w m) (told_first n k (flit_with e (words_with (shown_words e) u lacking)) same ps) (in_one n e words ps)
 of_held known before own home w m n k e lacking words u ps true is has d agree held =
@@ -447,358 +445,31 @@ of_held known before own home w m n k e lacking words u ps false is has d agree 
     let end = flit_with e words in
     let other : u ≡ words → x ≡ words = λ h. (λ i. words_with (d.words i) (h i) lacking) ∙ agree in
     let refused : takes_by_word w end ≡ false = by_bool (takes_by_word w end)
-    (λ h. absurd (true≢false (sym ((same_words x words).1 (other (fits_home w.line.seen.home u words has (subst (λ (y : List ℕ). fits w.line.seen.home y ≡ true) (words_as e words) (known w end (wanted_as w.line e words ∙ is) h))))) ∙ held)))
+    (λ h. absurd (true≢false (sym ((same_words x words).1 (other (fits_home w.line.seen.home u words has (subst (λ (y : List ℕ). fits w.line.seen.home y ≡ true) (words_as e words) (known w end (wanted_as w e words ∙ is) h))))) ∙ held)))
     (λ h. h) in
     let rest = taken_through own home (behind_it w (flit_with e x)) ps in
     neither before home s (told_first n k (flit_with e x) false ps) (in_one n e words ps)
     (taken_first before own home w m n k (flit_with e x) false ps ∙ shut (c && takes_by_word w (flit_with e x)) (rest && false) (shut rest false refl))
     (ap (λ (b : Bool). b && takes_all before home (line_next before s n (news.Flit (Some end))) (told_of ps)) (takes_whole before own home w m n end ∙ shut c (takes_by_word w end) refused))
 
-early_held : (w : WatchedWords) (s : LineState) (e : Flit) (lacking : List Bool) (u : List ℕ) (l : Lacking) → l ≡ lacks.Nothing → wanted w.line e ≡ wants.Known → w.line.seen.home ≡ Some u
-    → early_by (wanted w.line e) (record s { lacking = lacks.Nothing; told = FromStart w }) e lacking ≡ Some (laters.Held, words_with (shown_words e) u lacking)
+early_held : (w : WatchedWords) (s : LineState) (e : Flit) (lacking : List Bool) (u : List ℕ) (l : Lacking) → l ≡ lacks.Nothing → wanted w e ≡ wants.Known → w.line.seen.home ≡ Some u
+    → early_by (wanted w e) (record s { lacking = lacks.Nothing; told = FromStart w }) e lacking ≡ Some (laters.Held, words_with (shown_words e) u lacking)
 early_held w s e lacking u l none is has =
     ap (λ (x : Wanted). early_by x (record s { lacking = lacks.Nothing; told = FromStart w }) e lacking) is
     ∙ ap (λ (o : Option (List ℕ)). option_map (λ (home : List ℕ). (laters.Held, words_with (shown_words e) home lacking)) o) has
 
-of_known : KnownWordsAreTaken → (before : Before) (own home : NodeId) (w : WatchedWords) (m : Marked) (n k : ℕ) (e : Flit) (lacking : List Bool) (words : List ℕ) (ps : List (ℕ × Flit))
-    → wanted w.line e ≡ wants.Known → words_with (flit_words e) words lacking ≡ words → Alike before own home w m n k e lacking words ps (early_of (judged_line own w m) e lacking)
+pub of_known : KnownWordsAreTaken → (before : Before) (own home : NodeId) (w : WatchedWords) (m : Marked) (n k : ℕ) (e : Flit) (lacking : List Bool) (words : List ℕ) (ps : List (ℕ × Flit))
+    → wanted w e ≡ wants.Known → words_with (flit_words e) words lacking ≡ words → Alike before own home w m n k e lacking words ps (early_of (judged_line own w m) e lacking)
 of_known known before own home w m n k e lacking words ps is agree =
-    each_home w.line.seen.home (known_home w.line e is) (λ u has.
-    let d = is_data w.line e (λ none. known_is_wanted (sym is ∙ none)) in
+    each_home w.line.seen.home (known_home w e is) (λ u has.
+    let d = is_data w e (λ none. known_is_wanted (sym is ∙ none)) in
     subst (Alike before own home w m n k e lacking words ps) (sym (early_held w (judged_line own w m) e lacking u lacks.Nothing refl is has))
     (of_held known before own home w m n k e lacking words u ps (pointwise nat_eq (words_with (shown_words e) u lacking) words) is has d agree refl))
 
-of_free : FreeWordsAreTaken → (before : Before) (own home : NodeId) (w : WatchedWords) (m : Marked) (n k : ℕ) (e : Flit) (lacking : List Bool) (words : List ℕ) (ps : List (ℕ × Flit))
-    → wanted w.line e ≡ wants.Free → Alike before own home w m n k e lacking words ps (early_of (judged_line own w m) e lacking)
+pub of_free : FreeWordsAreTaken → (before : Before) (own home : NodeId) (w : WatchedWords) (m : Marked) (n k : ℕ) (e : Flit) (lacking : List Bool) (words : List ℕ) (ps : List (ℕ × Flit))
+    → wanted w e ≡ wants.Free → Alike before own home w m n k e lacking words ps (early_of (judged_line own w m) e lacking)
 of_free free before own home w m n k e lacking words ps is =
     let x = shown_words e in
     subst (Alike before own home w m n k e lacking words ps) (sym (ap (λ (y : Wanted). early_by y (judged_line own w m) e lacking) is))
     (beside before own home w m n k (flit_with e x) (flit_with e words) ps
     ((free w x e is).0 ∙ sym (free w words e is).0) ((free w x e is).1 ∙ sym (free w words e is).1))
-
--- WORDS THAT MAY BE ANY, BUT FOR THOSE THAT LOADS TOLD
-abbrev home_words : WatchedWords → Flit → List ℕ
-home_words w e = unwrap_or w.line.seen.home (shown_words e)
-
-abbrev first_words : WatchedWords → Flit → List Bool → List ℕ
-first_words w e lacking = words_with (words_with (shown_words e) (with_known (wanted_words w e) (home_words w e)) lacking) (home_words w e) none_lack
-
-presented_is : (own : NodeId) (w : WatchedWords) (m : Marked) (e : Flit) (lacking : List Bool) → IsData e → presented (judged_line own w m) e lacking ≡ flit_with e (first_words w e lacking)
-presented_is own w m e lacking d = d.shown (first_words w e lacking)
-
--- the home's words behind the first beat, and those that no flit has shown
-abbrev begun_words : WatchedWords → Flit → List Bool → List ℕ
-begun_words w e lacking = words_with (first_words w e lacking) (shown_words e) (left_of none_lack lacking)
-
-abbrev left_unknown : WatchedWords → Flit → List Bool → List Bool
-left_unknown w e lacking = but_known (wanted_words w e) lacking
-
--- the first beat is taken, and all of the data
-abbrev takes_first : WatchedWords → Flit → List Bool → Bool
-takes_first w e lacking = is_taken w.line e && agree (wanted_words w e) (first_words w e lacking)
-
-takes_begin : AnyWordsAreTaken → (before : Before) (own home : NodeId) (w : WatchedWords) (m : Marked) (n : ℕ) (e : Flit) (lacking : List Bool) → wanted w.line e ≡ wants.Any
-    → takes_line before (judged_line own w m) home n (news.Begun e lacking) ≡ (own.0 == home.0 && takes_first w e lacking)
-unfolding takes_line
-takes_begin any before own home w m n e lacking is =
-    let d = is_data w.line e (λ none. any_is_wanted (sym is ∙ none)) in
-    let f = presented (judged_line own w m) e lacking in
-    ap (λ (x : Wanted). takes_begun (lacking_with lacks.Nothing x (is_given e) lacking (wanted_words w e)) before (judged_line own w m) home n f) is
-    ∙ ap (λ (b : Bool). own.0 == home.0 && b) (passed_by (takes_by_word w f) (FromStart (watch_by_word w f)) ∙ (ap (takes_by_word w) (presented_is own w m e lacking d) ∙ (any w (first_words w e lacking) e is).0))
-
-begin_runs : AnyWordsAreTaken → (before : Before) (own : NodeId) (w : WatchedWords) (m : Marked) (n : ℕ) (e : Flit) (lacking : List Bool) → wanted w.line e ≡ wants.Any → hides w ≡ true → takes_first w e lacking ≡ true
-    → Runs (line_next before (judged_line own w m) n (news.Begun e lacking)) own (lacks.Words (left_unknown w e lacking) 0 (is_given e)) (begun_words w e lacking) (watch_by_word w e)
-unfolding line_next
-begin_runs any before own w m n e lacking is q taken =
-    let d = is_data w.line e (λ none. any_is_wanted (sym is ∙ none)) in
-    let u = first_words w e lacking in
-    let f = presented (judged_line own w m) e lacking in
-    let as_it = presented_is own w m e lacking d in
-    let takes = ap (takes_by_word w) as_it ∙ ((any w u e is).0 ∙ taken) in
-    let next = ap (watch_by_word w) as_it ∙ (any w u e is).1 in
-    let s = judged_line own w m in
-    record {
-      marks = record (marks_after n f (Some u) m) { words = n };
-      is = ap (λ (x : Wanted). begun_next (lacking_with lacks.Nothing x (is_given e) lacking (wanted_words w e)) before s n e lacking) is
-          ∙ (λ i. marked_words n (record (shown_more (next_by (known_if (takes i) (FromStart (next i))) s n f) e lacking) { lacking = lacks.Words (left_unknown w e lacking) 0 (is_given e) }));
-      hidden = same_mode w e ∙ q;
-    }
-
-whole_runs : AnyWordsAreTaken → (before : Before) (own : NodeId) (w : WatchedWords) (m : Marked) (n : ℕ) (e : Flit) (v : List ℕ) → wanted w.line e ≡ wants.Any → hides w ≡ true → (is_taken w.line e && agree (wanted_words w e) v) ≡ true
-    → Runs (line_next before (judged_line own w m) n (news.Flit (Some (flit_with e v)))) own lacks.Nothing v (watch_by_word w e)
-unfolding line_next
-whole_runs any before own w m n e v is q taken =
-    let takes = (any w v e is).0 ∙ taken in
-    let next = (any w v e is).1 in
-    record {
-      marks = marks_after n (flit_with e v) (Some v) m;
-      is = λ i. next_by (known_if (takes i) (FromStart (next i))) (judged_line own w m) n (flit_with e v);
-      hidden = same_mode w e ∙ q;
-    }
-
-takes_last : (before : Before) (home h : NodeId) (u : List Bool) (had : Bool) (v : List ℕ) (y : WatchedWords) (m : Marked) (k : ℕ) (f : Flit)
-    → takes_line before (line_of h (lacks.Words u 0 had) v y m) home k (news.Ended (Some f)) ≡ agrees u (Some v) (shown_words f)
-unfolding takes_line
-takes_last before home h u had v y m k f = refl
-
-told_last : (before : Before) (h : NodeId) (u : List Bool) (had : Bool) (v : List ℕ) (y : WatchedWords) (m : Marked) (k : ℕ) (f : Flit)
-    → (line_next before (line_of h (lacks.Words u 0 had) v y m) k (news.Ended (Some f))).told ≡ FromStart (homed (shown_words f) y)
-unfolding line_next
-told_last before h u had v y m k f = refl
-
-same_number : (a : ℕ) → (a == a) ≡ true
-same_number a = search (rules, arith)
-
--- a word is as known where the first beat's is, which has the known one where it lacks, and the last one's is the first one's
--- where that was known
-one_place : (l : Bool) (k : Option ℕ) (a h x : ℕ) → x ≡ word_with a x l
-    → (fits_known k (word_with a (unwrap_or k h) l) && agrees_word (l && not (is_some k)) (word_with a (unwrap_or k h) l) x) ≡ fits_known k x
-one_place false k a h x e = ap (λ (b : Bool). fits_known k a && b) (ap (λ (y : ℕ). a == y) e ∙ same_number a) ∙ (and_true (fits_known k a) ∙ ap (fits_known k) (sym e))
-one_place true None a h x e = refl
-one_place true (Some c) a h x e = ap (λ (b : Bool). b && (c == x)) (same_number c)
-
--- eight that are true
-record All (a b c d e f g h : Bool) : Type 0 where
-  pub p0 : a ≡ true
-  pub p1 : b ≡ true
-  pub p2 : c ≡ true
-  pub p3 : d ≡ true
-  pub p4 : e ≡ true
-  pub p5 : f ≡ true
-  pub p6 : g ≡ true
-  pub p7 : h ≡ true
-
-all_of : (a b c d e f g h : Bool) → All a b c d e f g h → (a && b && c && d && e && f && g && h) ≡ true
-all_of a b c d e f g h p = λ i. p.p0 i && p.p1 i && p.p2 i && p.p3 i && p.p4 i && p.p5 i && p.p6 i && p.p7 i
-
-all_in : (a b c d e f g h : Bool) → (a && b && c && d && e && f && g && h) ≡ true → All a b c d e f g h
-all_in true true true true true true true true p = record { p0 = refl; p1 = refl; p2 = refl; p3 = refl; p4 = refl; p5 = refl; p6 = refl; p7 = refl }
-all_in false b c d e f g h p = untrue p
-all_in true false c d e f g h p = untrue p
-all_in true true false d e f g h p = untrue p
-all_in true true true false e f g h p = untrue p
-all_in true true true true false f g h p = untrue p
-all_in true true true true true false g h p = untrue p
-all_in true true true true true true false h p = untrue p
-all_in true true true true true true true false p = untrue p
-
-below_of : (f : ℕ → Bool) → All (f 0) (f 1) (f 2) (f 3) (f 4) (f 5) (f 6) (f 7) → all_below 8 f ≡ true
-below_of f p = λ i. p.p7 i && (p.p6 i && (p.p5 i && (p.p4 i && (p.p3 i && (p.p2 i && (p.p1 i && (p.p0 i && true)))))))
-
-below_nest : (a b c d e f g h : Bool) → (h && (g && (f && (e && (d && (c && (b && (a && true)))))))) ≡ true → All a b c d e f g h
-below_nest true true true true true true true true p = record { p0 = refl; p1 = refl; p2 = refl; p3 = refl; p4 = refl; p5 = refl; p6 = refl; p7 = refl }
-below_nest a b c d e f g false p = untrue p
-below_nest a b c d e f false true p = untrue p
-below_nest a b c d e false true true p = untrue p
-below_nest a b c d false true true true p = untrue p
-below_nest a b c false true true true true p = untrue p
-below_nest a b false true true true true true p = untrue p
-below_nest a false true true true true true true p = untrue p
-below_nest false true true true true true true true p = untrue p
-
-below_in : (f : ℕ → Bool) → all_below 8 f ≡ true → All (f 0) (f 1) (f 2) (f 3) (f 4) (f 5) (f 6) (f 7)
-below_in f p = below_nest (f 0) (f 1) (f 2) (f 3) (f 4) (f 5) (f 6) (f 7) p
-
-same_bool : (a b : Bool) → (a ≡ true → b ≡ true) → (b ≡ true → a ≡ true) → a ≡ b
-same_bool true b h k = sym (h refl)
-same_bool false true h k = k refl
-same_bool false false h k = refl
-
--- the words of all beats are as known where those of the first one are, and the last one's agree
-module _ (w : WatchedWords) (e : Flit) (lacking : List Bool) (words : List ℕ) (d : IsData e) (own : words_with (flit_words e) words lacking ≡ words) where
-  abbrev known : Words
-  known = wanted_words w e
-
-  abbrev word : ℕ → ℕ
-  word n = slice_index_or (shown_words e) n 0
-
-  abbrev told : ℕ → ℕ
-  told n = slice_index_or words n 0
-
-  abbrev old : ℕ → ℕ
-  old n = slice_index_or (home_words w e) n 0
-
-  abbrev first_fits : ℕ → Bool
-  first_fits n = fits_known (known n) (slice_index_or (first_words w e lacking) n 0)
-
-  abbrev whole_fits : ℕ → Bool
-  whole_fits n = fits_known (known n) (told n)
-
-  abbrev last_fits : ℕ → Bool
-  last_fits n = agrees_at (left_unknown w e lacking) (begun_words w e lacking) words n
-
-  there : (n : ℕ) → told n ≡ slice_index_or (words_with (shown_words e) words lacking) n 0
-  there n = ap (λ (v : List ℕ). slice_index_or v n 0) (sym (ap (λ (v : List ℕ). words_with v words lacking) d.words ∙ own))
-
-  at : (n : ℕ) → told n ≡ word_with (word n) (told n) (word_at lacking n)
-      → (fits_known (known n) (word_with (word n) (unwrap_or (known n) (old n)) (word_at lacking n)) && agrees_word (word_at lacking n && not (is_some (known n))) (word_with (word n) (unwrap_or (known n) (old n)) (word_at lacking n)) (told n)) ≡ whole_fits n
-  at n same = one_place (word_at lacking n) (known n) (word n) (old n) (told n) same
-
-  at0 : (first_fits 0 && last_fits 0) ≡ whole_fits 0
-  at0 = at 0 (there 0)
-
-  at1 : (first_fits 1 && last_fits 1) ≡ whole_fits 1
-  at1 = at 1 (there 1)
-
-  at2 : (first_fits 2 && last_fits 2) ≡ whole_fits 2
-  at2 = at 2 (there 2)
-
-  at3 : (first_fits 3 && last_fits 3) ≡ whole_fits 3
-  at3 = at 3 (there 3)
-
-  at4 : (first_fits 4 && last_fits 4) ≡ whole_fits 4
-  at4 = at 4 (there 4)
-
-  at5 : (first_fits 5 && last_fits 5) ≡ whole_fits 5
-  at5 = at 5 (there 5)
-
-  at6 : (first_fits 6 && last_fits 6) ≡ whole_fits 6
-  at6 = at 6 (there 6)
-
-  at7 : (first_fits 7 && last_fits 7) ≡ whole_fits 7
-  at7 = at 7 (there 7)
-
-  joined : (agree known (first_words w e lacking) && agrees (left_unknown w e lacking) (Some (begun_words w e lacking)) words) ≡ true → agree known words ≡ true
-  joined h =
-      let p = below_in first_fits (both_left (agree known (first_words w e lacking)) _ h) in
-      let q = all_in (last_fits 0) (last_fits 1) (last_fits 2) (last_fits 3) (last_fits 4) (last_fits 5) (last_fits 6) (last_fits 7) (both_right (agree known (first_words w e lacking)) _ h) in
-      below_of whole_fits (record {
-        p0 = sym at0 ∙ both _ _ p.p0 q.p0;
-        p1 = sym at1 ∙ both _ _ p.p1 q.p1;
-        p2 = sym at2 ∙ both _ _ p.p2 q.p2;
-        p3 = sym at3 ∙ both _ _ p.p3 q.p3;
-        p4 = sym at4 ∙ both _ _ p.p4 q.p4;
-        p5 = sym at5 ∙ both _ _ p.p5 q.p5;
-        p6 = sym at6 ∙ both _ _ p.p6 q.p6;
-        p7 = sym at7 ∙ both _ _ p.p7 q.p7;
-      })
-
-  parted : agree known words ≡ true → (agree known (first_words w e lacking) && agrees (left_unknown w e lacking) (Some (begun_words w e lacking)) words) ≡ true
-  parted h =
-      let r = below_in whole_fits h in
-      let b0 = at0 ∙ r.p0 in
-      let b1 = at1 ∙ r.p1 in
-      let b2 = at2 ∙ r.p2 in
-      let b3 = at3 ∙ r.p3 in
-      let b4 = at4 ∙ r.p4 in
-      let b5 = at5 ∙ r.p5 in
-      let b6 = at6 ∙ r.p6 in
-      let b7 = at7 ∙ r.p7 in
-      both _ _
-      (below_of first_fits (record {
-        p0 = both_left (first_fits 0) (last_fits 0) b0;
-        p1 = both_left (first_fits 1) (last_fits 1) b1;
-        p2 = both_left (first_fits 2) (last_fits 2) b2;
-        p3 = both_left (first_fits 3) (last_fits 3) b3;
-        p4 = both_left (first_fits 4) (last_fits 4) b4;
-        p5 = both_left (first_fits 5) (last_fits 5) b5;
-        p6 = both_left (first_fits 6) (last_fits 6) b6;
-        p7 = both_left (first_fits 7) (last_fits 7) b7;
-      }))
-      (all_of (last_fits 0) (last_fits 1) (last_fits 2) (last_fits 3) (last_fits 4) (last_fits 5) (last_fits 6) (last_fits 7) (record {
-        p0 = both_right (first_fits 0) (last_fits 0) b0;
-        p1 = both_right (first_fits 1) (last_fits 1) b1;
-        p2 = both_right (first_fits 2) (last_fits 2) b2;
-        p3 = both_right (first_fits 3) (last_fits 3) b3;
-        p4 = both_right (first_fits 4) (last_fits 4) b4;
-        p5 = both_right (first_fits 5) (last_fits 5) b5;
-        p6 = both_right (first_fits 6) (last_fits 6) b6;
-        p7 = both_right (first_fits 7) (last_fits 7) b7;
-      }))
-
-  last_agrees : (agree known (first_words w e lacking) && agrees (left_unknown w e lacking) (Some (begun_words w e lacking)) words) ≡ agree known words
-  last_agrees = same_bool _ _ joined parted
-
--- whether the first beat is taken, and whether the last one agrees
-abbrev agrees_last : WatchedWords → Flit → List Bool → List ℕ → Bool
-agrees_last w e lacking words = agrees (left_unknown w e lacking) (Some (begun_words w e lacking)) words
-
-takes_words : AnyWordsAreTaken → (w : WatchedWords) (e : Flit) (lacking : List Bool) (words : List ℕ) → wanted w.line e ≡ wants.Any → words_with (flit_words e) words lacking ≡ words
-    → takes_by_word w (flit_with e words) ≡ (takes_first w e lacking && agrees_last w e lacking words)
-takes_words any w e lacking words is own =
-    let d = is_data w.line e (λ none. any_is_wanted (sym is ∙ none)) in
-    (any w words e is).0
-    ∙ (ap (λ (b : Bool). is_taken w.line e && b) (sym (last_agrees w e lacking words d own))
-    ∙ grouped (is_taken w.line e) (agree (wanted_words w e) (first_words w e lacking)) (agrees_last w e lacking words))
-
-begun_alike : WordlessFlitsAreApart → AnyWordsAreTaken → (before : Before) (own home : NodeId) (w : WatchedWords) (m : Marked) (n k : ℕ) (e : Flit) (lacking : List Bool) (words : List ℕ) (ps : List (ℕ × Flit)) (t a : Bool)
-    → wanted w.line e ≡ wants.Any → words_with (flit_words e) words lacking ≡ words → hides w ≡ true → all_wordless ps ≡ true → takes_first w e lacking ≡ t → agrees_last w e lacking words ≡ a
-    → Alike before own home w m n k e lacking words ps None
-begun_alike apart any before own home w m n k e lacking words ps false a is fit q ws taken ends =
-    let s = judged_line own w m in
-    let c = own.0 == home.0 in
-    let end = flit_with e words in
-    neither before home s (in_two None n k e lacking words (told_of ps)) (in_one n e words ps)
-    (ap (λ (b : Bool). b && takes_all before home (line_next before s n (news.Begun e lacking)) (told_of ps ++ ((k, news.Ended (Some end)) ∷ []))) (takes_begin any before own home w m n e lacking is ∙ shut c (takes_first w e lacking) taken))
-    (ap (λ (b : Bool). b && takes_all before home (line_next before s n (news.Flit (Some end))) (told_of ps))
-    (takes_whole before own home w m n end ∙ shut c (takes_by_word w end) (takes_words any w e lacking words is fit ∙ ap (λ (b : Bool). b && agrees_last w e lacking words) taken)))
-begun_alike apart any before own home w m n k e lacking words ps true false is fit q ws taken ends =
-    let s = judged_line own w m in
-    let c = own.0 == home.0 in
-    let end = flit_with e words in
-    let d = is_data w.line e (λ none. any_is_wanted (sym is ∙ none)) in
-    let z = watch_by_word w e in
-    let v = begun_words w e lacking in
-    let begun = line_next before s n (news.Begun e lacking) in
-    let run = begin_runs any before own w m n e lacking is q taken in
-    let behind = all_run apart before own (lacks.Words (left_unknown w e lacking) 0 (is_given e)) v refl ps ws begun z run in
-    let first = takes_line before s home n (news.Begun e lacking) in
-    let last : (takes_line before (behind_all before begun (told_of ps)) home k (news.Ended (Some end)) && true) ≡ false =
-    ap (λ (y : LineState). takes_line before y home k (news.Ended (Some end)) && true) behind.is
-    ∙ ap (λ (b : Bool). b && true) (takes_last before home own (left_unknown w e lacking) (is_given e) v (through z ps) behind.marks k end ∙ (ap (λ (x : List ℕ). agrees (left_unknown w e lacking) (Some v) x) (d.all words) ∙ ends)) in
-    let rest = takes_both before home begun (told_of ps) ((k, news.Ended (Some end)) ∷ [])
-    ∙ shut (takes_all before home begun (told_of ps)) (takes_line before (behind_all before begun (told_of ps)) home k (news.Ended (Some end)) && true) last in
-    neither before home s (in_two None n k e lacking words (told_of ps)) (in_one n e words ps)
-    (shut first (takes_all before home begun (told_of ps ++ ((k, news.Ended (Some end)) ∷ []))) rest)
-    (ap (λ (b : Bool). b && takes_all before home (line_next before s n (news.Flit (Some end))) (told_of ps))
-    (takes_whole before own home w m n end ∙ shut c (takes_by_word w end) (takes_words any w e lacking words is fit ∙ shut (takes_first w e lacking) (agrees_last w e lacking words) ends)))
-begun_alike apart any before own home w m n k e lacking words ps true true is fit q ws taken ends =
-    let s = judged_line own w m in
-    let c = own.0 == home.0 in
-    let end = flit_with e words in
-    let d = is_data w.line e (λ none. any_is_wanted (sym is ∙ none)) in
-    let z = watch_by_word w e in
-    let v = begun_words w e lacking in
-    let begun = line_next before s n (news.Begun e lacking) in
-    let whole = line_next before s n (news.Flit (Some end)) in
-    let all_taken_here = takes_words any w e lacking words is fit ∙ both (takes_first w e lacking) (agrees_last w e lacking words) taken ends in
-    let run = begin_runs any before own w m n e lacking is q taken in
-    let run_whole = whole_runs any before own w m n e words is q (sym (any w words e is).0 ∙ all_taken_here) in
-    let behind = all_run apart before own (lacks.Words (left_unknown w e lacking) 0 (is_given e)) v refl ps ws begun z run in
-    let behind_whole = all_run apart before own lacks.Nothing words refl ps ws whole z run_whole in
-    let first = takes_begin any before own home w m n e lacking is ∙ ap (λ (b : Bool). c && b) taken in
-    let entire = takes_whole before own home w m n end ∙ ap (λ (b : Bool). c && b) all_taken_here in
-    let last : (takes_line before (behind_all before begun (told_of ps)) home k (news.Ended (Some end)) && true) ≡ true =
-    ap (λ (y : LineState). takes_line before y home k (news.Ended (Some end)) && true) behind.is
-    ∙ ap (λ (b : Bool). b && true) (takes_last before home own (left_unknown w e lacking) (is_given e) v (through z ps) behind.marks k end ∙ (ap (λ (x : List ℕ). agrees (left_unknown w e lacking) (Some v) x) (d.all words) ∙ ends)) in
-    let rest = takes_both before home begun (told_of ps) ((k, news.Ended (Some end)) ∷ [])
-    ∙ (opened (takes_all before home begun (told_of ps)) (takes_line before (behind_all before begun (told_of ps)) home k (news.Ended (Some end)) && true) last
-    ∙ all_taken apart before home own (lacks.Words (left_unknown w e lacking) 0 (is_given e)) v refl ps ws begun z run) in
-    let others = all_taken apart before home own lacks.Nothing words refl ps ws whole z run_whole in
-    record {
-      taken = (λ i. first i && rest i) ∙ sym (λ i. entire i && others i);
-      told = λ h. ap (λ (y : LineState). y.told) (behind_both before begun (told_of ps) ((k, news.Ended (Some end)) ∷ []))
-          ∙ (ap (λ (y : LineState). (line_next before y k (news.Ended (Some end))).told) behind.is
-          ∙ (told_last before own (left_unknown w e lacking) (is_given e) v (through z ps) behind.marks k end
-          ∙ (ap (λ (x : List ℕ). FromStart (homed x (through z ps))) (d.all words) ∙ sym (ap (λ (y : LineState). y.told) behind_whole.is))));
-    }
-
-of_any : WordlessFlitsAreApart → AnyWordsAreTaken → (before : Before) (own home : NodeId) (w : WatchedWords) (m : Marked) (n k : ℕ) (e : Flit) (lacking : List Bool) (words : List ℕ) (ps : List (ℕ × Flit))
-    → wanted w.line e ≡ wants.Any → words_with (flit_words e) words lacking ≡ words → (not (is_told_any (wanted w.line e)) || (hides w && all_wordless ps)) ≡ true → Alike before own home w m n k e lacking words ps (early_of (judged_line own w m) e lacking)
-of_any apart any before own home w m n k e lacking words ps is agree ws =
-    let so = sym (ap (λ (y : Wanted). not (is_told_any y) || (hides w && all_wordless ps)) is) ∙ ws in
-    subst (Alike before own home w m n k e lacking words ps) (sym (ap (λ (y : Wanted). early_by y (judged_line own w m) e lacking) is))
-    (begun_alike apart any before own home w m n k e lacking words ps (takes_first w e lacking) (agrees_last w e lacking words) is agree (both_left (hides w) _ so) (both_right (hides w) _ so) refl refl)
-
--- THE LAW
-by_wanted : {P : Type 0} (x : Wanted) → x ≢ wants.Nothing → (x ≡ wants.Known → P) → (x ≡ wants.Any → P) → (x ≡ wants.Free → P) → P
-by_wanted wants.Nothing n known any free = absurd (n refl)
-by_wanted wants.Known n known any free = known refl
-by_wanted wants.Any n known any free = any refl
-by_wanted wants.Free n known any free = free refl
-
-pub one_flit : WordlessFlitsAreApart → AnyWordsAreTaken → FreeWordsAreTaken → KnownWordsAreTaken → BeatsAreOneFlit
-one_flit apart any free known before own home w m e lacking words ps n k some agree ws = by_wanted (wanted w.line e) some
-    (λ is. of_known known before own home w m n k e lacking words ps is agree)
-    (λ is. of_any apart any before own home w m n k e lacking words ps is agree ws)
-    (λ is. of_free free before own home w m n k e lacking words ps is)

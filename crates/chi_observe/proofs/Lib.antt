@@ -14,4 +14,5 @@ mod EqualWatches
 mod EqualWords
 mod EqualTables
 mod EqualParts
+mod AnyBeats
 mod BeatLemmas

@@ -73,6 +73,6 @@ pub record AreAlike (before : Before) (home : NodeId) (s : LineState) (one other
 -- are no loads
 abbrev pub BeatsAreOneFlit : Type 0
 BeatsAreOneFlit = (before : Before) (own home : NodeId) (w : WatchedWords) (marks : Marked) (flit : Flit) (lacking : List Bool) (words : List ℕ) (between : List (ℕ × Flit)) (first last : ℕ)
-    → wanted w.line flit ≢ wants.Nothing → words_with (flit_words flit) words lacking ≡ words
-    → (not (is_told_any (wanted w.line flit)) || (are_hidden w.line.seen.public.stores && all_wordless between)) ≡ true
+    → wanted w flit ≢ wants.Nothing → words_with (flit_words flit) words lacking ≡ words
+    → (not (is_told_any (wanted w flit)) || (are_hidden w.line.seen.public.stores && all_wordless between)) ≡ true
     → AreAlike before home (judged_line own w marks) (in_beats (judged_line own w marks) first last flit lacking words between) (in_one first flit words between)

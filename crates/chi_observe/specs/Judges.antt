@@ -128,7 +128,7 @@ told_in (AtHome a) = a.line
 
 -- what the words of data have to be that come in beats, where the line is told of them at their first one
 abbrev pub wanted_in : Judged → Flit → Wanted
-wanted_in (FromStart l) flit = wanted l.line flit
+wanted_in (FromStart l) flit = wanted l flit
 wanted_in told flit = Nothing
 
 -- the home has these words

@@ -256,7 +256,11 @@ impl<A: Allocator> Judge<A> {
         let agent = usize::from(teller_of(flit).0);
         let mut pair = pair_of(self.observer(), agent, other);
         let taken = match self {
-            Judge::Whole(_) | Judge::Home(_) => pair.take(flit),
+            Judge::Whole(_) | Judge::Home(_) => {
+                let words = KnownWords::none();
+                let mut worded = WordedObserver { seen: pair, words };
+                worded.take(flit)
+            }
             Judge::Begun(line) => {
                 let agents = line.begun.agents;
                 let mut begun = Begun {
@@ -290,7 +294,7 @@ impl<A: Allocator> Judge<A> {
         ensures { result ≡ wanted_in (judged self.now) flit }
     {
         match self {
-            Judge::Whole(observer) => observer.seen.wanted(flit),
+            Judge::Whole(observer) => observer.wanted(flit),
             Judge::Begun(_) => Wanted::Nothing,
             Judge::Home(_) => Wanted::Nothing,
         }

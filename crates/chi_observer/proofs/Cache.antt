@@ -96,7 +96,7 @@ module _ (o : Observed) (f : CacheFlit) (w w' : World) (sound : Sound o) (low : 
   known_is h e c u k = sym (m.home u k) ∙ sym (m.current c (unstored h e)) ∙ sym (shown_last h)
 
   -- where they are others than the known ones the copy was stored to
-  stored_by : (e : Bool) → fresh mode d t s ≡ e → b ≡ true → (has_data f.act && e) ≡ true
+  pub stored_by : (e : Bool) → fresh mode d t s ≡ e → b ≡ true → (has_data f.act && e) ≡ true
   stored_by true e h = both (has_data f.act) true (left _ _ h) refl
   stored_by false e h =
       let shows : has_data f.act ≡ true = left _ _ h in

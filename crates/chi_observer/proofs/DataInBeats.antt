@@ -20,17 +20,19 @@ use Rattle.chi_observer.specs.declared.wanted.Wanted.{Wanted}
 use Rattle.chi_observer.specs.declared.wanted.Wanted.TheVariants.{Nothing, Known, Any, Free}
 use Rattle.chi_observer.specs.Copies.{is_unique, same}
 use Rattle.chi_observer.specs.Copies.Copy.{UniqueDirty}
-use Rattle.chi_observer.specs.Rules.{allows, are_hidden, gives_data, has_data, lets_go, looks, makes, reads_any, settles, stores, tells_words, writes}
+use Rattle.chi_observer.specs.Rules.{allows, are_hidden, gives_data, has_data, lets_go, looks, makes, reads_any, settles, stores, tells_words, word_at, writes}
 use Rattle.chi_observer.specs.Tables.{Known as Told, answer_tells_dirty, fills_told, fits_told, is_cancelled, most, renews, shows_told, told_behind, told_granted}
 use Rattle.chi_observer.specs.Judged.{is_judged}
 use Rattle.chi_observer.specs.Moments.{has_moment, shown_after, waits_after}
 use Rattle.chi_observer.specs.Observed.{Observed, current_after, differs, fits, fits_word, goes}
 use Rattle.chi_observer.specs.Worlds.{home_may, public_after, public_granted, put}
-use Rattle.chi_observer.specs.Lines.{Watched, is_taken, watch}
-use Rattle.chi_observer.specs.Worded.{Words, agree, all_words, copy_words, counts_later, fits_load, fits_words, forgets, is_placed, known_words, may_be_empty, may_read_any, no_words, renewed, words_after, words_by, words_granted}
+use Rattle.chi_observer.specs.Lines.{Watched, is_taken, watch, watch_as}
+use Rattle.chi_observer.specs.Worded.{Worded, Words, agree, all_words, copy_words, counts_later, differs_by_word, fits_known, fits_load, fits_words, forgets, is_placed, known_words, may_be_empty, may_read_any, no_words, renewed, words_after, words_by, words_granted}
 use Rattle.chi_observer.specs.WordedLines.{WatchedWords, counted_by_word, is_taken_worded, watch_worded, worded_in}
-use Rattle.chi_observer.specs.Wanted.{AnyWordsAreTaken, FreeWordsAreTaken, KnownWordsAreTaken, WordlessFlitsAreApart, cancelled_if, flit_with, flit_words, homed, is_wordless, tells_cancelled, wanted, wanted_if, with_home}
+use Rattle.chi_observer.specs.Wanted.{AnyWordsAreTaken, FreeWordsAreTaken, KnownWordsAreTaken, WordlessFlitsAreApart, cancelled_if, flit_with, flit_words, homed, is_wordless, may_differ, none_known, tells_cancelled, wanted, wanted_if, with_home}
 use Rattle.chi_observer.proofs.Finite.{no, left, right}
+use Rattle.chi_observer.proofs.Copies.{each_below}
+use Rattle.chi_observer.proofs.ListedWords.{agree_by}
 
 -- flits without words
 Apart : Watched → List ℕ → Flit → Type 0
@@ -116,26 +118,27 @@ shown_fits : (b fit : Bool) → b ≡ true → (not b || fit) ≡ true → fit �
 shown_fits true fit h t = t
 shown_fits false fit h t = no h
 
-known_sent : (s : Watched) (f : CacheFlit) → wanted s (Up f) ≡ Known → is_taken s (Up f) ≡ true → fits s.seen.home f.shown ≡ true
-known_sent s f h t =
-    let o = s.seen in
+known_sent : (l : WatchedWords) (f : CacheFlit) → wanted l (Up f) ≡ Known → is_taken l.line (Up f) ≡ true → fits l.line.seen.home f.shown ≡ true
+known_sent l f h t =
+    let o = l.line.seen in
     let n = f.agent.0 in
     let renewed = renews o.public.stores f.act (lets_go (o.public.snooped n)) (o.public.due n) (o.told n) in
-    let k = (wanted_known (not (tells_words f.act) || tells_cancelled o f) _ (in_reach (nat_lt n 32) _ Known h (λ e. absurd (search (rules, arith)))).1).1 in
+    let k = (wanted_known (not (tells_words f.act) || tells_cancelled (worded_in l) f) _ (in_reach (nat_lt n 32) _ Known h (λ e. absurd (search (rules, arith)))).1).1 in
     held (has_data f.act) renewed o.current (is_some o.home) _ k
     (left _ _ (right (fits_told o.public.stores f.act (lets_go (o.public.snooped n)) (o.public.due n) (o.told n)) _ (right (allows f.act (o.public.snooped n)) _ (right (nat_lt n 32) _ (right (is_judged (Up f)) _ t)))))
 
-known_given : (s : Watched) (g : HomeFlit) → wanted s (Down g) ≡ Known → is_taken s (Down g) ≡ true → fits s.seen.home g.shown ≡ true
-known_given s g h t =
+known_given : (l : WatchedWords) (g : HomeFlit) → wanted l (Down g) ≡ Known → is_taken l.line (Down g) ≡ true → fits l.line.seen.home g.shown ≡ true
+known_given l g h t =
+    let s = l.line in
     let o = s.seen in
     let n = g.agent.0 in
     let shows = (given_reach (shows_told g.grant (o.told n)) (gives_data g.grant) _ Known (in_reach (nat_lt n 32) _ Known h (λ e. absurd (search (rules, arith)))).1 (λ e. absurd (search (rules, arith))) (λ e. absurd (search (rules, arith)))).0 in
     shown_fits (shows_told g.grant (o.told n)) _ shows
     (left _ _ (right (home_may o.public g) _ (right (has_moment o s.shown g) _ (right (nat_lt n 32) _ (right (is_judged (Down g)) _ t)))))
 
-known_taken_itself : (s : Watched) (e : Flit) → wanted s e ≡ Known → is_taken s e ≡ true → fits s.seen.home (flit_words e) ≡ true
-known_taken_itself s (Up f) = known_sent s f
-known_taken_itself s (Down g) = known_given s g
+known_taken_itself : (l : WatchedWords) (e : Flit) → wanted l e ≡ Known → is_taken l.line e ≡ true → fits l.line.seen.home (flit_words e) ≡ true
+known_taken_itself l (Up f) = known_sent l f
+known_taken_itself l (Down g) = known_given l g
 
 -- words that may be any
 any_fits : (worded renewed current : Bool) (home : Option (List ℕ)) (v : List ℕ) → (worded && (not renewed && (current && is_some home))) ≡ false → (not worded || (renewed || (not current || fits home v))) ≡ true
@@ -170,26 +173,48 @@ cancelled_same (Store z) (Resending q) k x h = refl
 cancelled_same (Store z) other k x h = refl
 cancelled_same other d k x h = refl
 
-differs_not : (b current : Bool) (home : Option (List ℕ)) (v : List ℕ) → (current && is_some home) ≡ false → (b && (current && not (fits home v))) ≡ false
-differs_not false current home v h = refl
-differs_not true false home v h = refl
-differs_not true true None v h = refl
-differs_not true true (Some u) v h = no (sym h)
+-- where no word is known, or that is asked of none
+fits_unknown : (o : Option ℕ) (v : ℕ) → not (is_some o) ≡ true → fits_known o v ≡ true
+fits_unknown None v h = refl
+fits_unknown (Some u) v h = no h
 
-by_known : (o : Observed) (f : CacheFlit) (k : Bool) → (o.current && is_some o.home) ≡ k → (k && (cancelled_if o f true && not (cancelled_if o f false))) ≡ false → cancelled_if o f (differs o f) ≡ cancelled_if o f false
-by_known o f true is h = cancelled_same f.act (o.public.due f.agent.0) (o.told f.agent.0) (differs o f) h
-by_known o f false is h = ap (cancelled_if o f) (differs_not (has_data f.act) o.current o.home f.shown is)
+unknown_agrees : (k : Words) (v : List ℕ) → none_known k ≡ true → agree k v ≡ true
+unknown_agrees k v h = agree_by k v (λ p low. fits_unknown (k p) (word_at v p) (each_below 8 (λ q. not (is_some (k q))) h p low))
 
-any_sent : (s : Watched) (words : List ℕ) (f : CacheFlit) → wanted s (Up f) ≡ Any → (is_taken s (flit_with (Up f) words) ≡ is_taken s (Up f)) × (watch s (flit_with (Up f) words) ≡ with_home words (watch s (Up f)))
-any_sent s words f h =
+none_apart : (b c g k : Bool) (home : Option (List ℕ)) (v : List ℕ) → (if c then is_some home else not k) ≡ false → (k ≡ true → g ≡ true) → ((b && (not c && not g)) || (b && (c && not (fits home v)))) ≡ false
+none_apart false c g k home v h e = refl
+none_apart true true g k None v h e = refl
+none_apart true true g k (Some u) v h e = no (sym h)
+none_apart true false true k home v h e = refl
+none_apart true false false true home v h e = no (e refl)
+none_apart true false false false home v h e = no (sym h)
+
+-- whatever its words are
+cancelled_alike : (l : Worded) (f : CacheFlit) (v : List ℕ) → tells_cancelled l f ≡ false
+    → cancelled_if l.seen f (differs_by_word l (record f { shown = v }) || differs l.seen (record f { shown = v })) ≡ cancelled_if l.seen f (differs_by_word l f || differs l.seen f)
+cancelled_alike l f v h = by (may_differ l) refl h
+  where
+    none : (u : List ℕ) → may_differ l ≡ false → (differs_by_word l (record f { shown = u }) || differs l.seen (record f { shown = u })) ≡ false
+    none u m = none_apart (has_data f.act) l.seen.current (agree l.words u) (none_known l.words) l.seen.home u m (unknown_agrees l.words u)
+
+    by : (m : Bool) → may_differ l ≡ m → (m && (cancelled_if l.seen f true && not (cancelled_if l.seen f false))) ≡ false
+        → cancelled_if l.seen f (differs_by_word l (record f { shown = v }) || differs l.seen (record f { shown = v })) ≡ cancelled_if l.seen f (differs_by_word l f || differs l.seen f)
+    by true m h = cancelled_same f.act (l.seen.public.due f.agent.0) (l.seen.told f.agent.0) _ h ∙ sym (cancelled_same f.act (l.seen.public.due f.agent.0) (l.seen.told f.agent.0) _ h)
+    by false m h = ap (cancelled_if l.seen f) (none v m ∙ sym (none f.shown m))
+
+any_sent : (l : WatchedWords) (words : List ℕ) (f : CacheFlit) → wanted l (Up f) ≡ Any
+    → (is_taken l.line (flit_with (Up f) words) ≡ is_taken l.line (Up f))
+    × (watch_as l.line (flit_with (Up f) words) (differs_by_word (worded_in l) (record f { shown = words })) ≡ with_home words (watch_as l.line (Up f) (differs_by_word (worded_in l) f)))
+any_sent l words f h =
+    let s = l.line in
     let o = s.seen in
     let n = f.agent.0 in
     let renewed = renews o.public.stores f.act (lets_go (o.public.snooped n)) (o.public.due n) (o.told n) in
-    let free = wanted_any (not (tells_words f.act) || tells_cancelled o f) _ (in_reach (nat_lt n 32) _ Any h (λ e. absurd (search (rules, arith)))).1 in
-    let form = none_of (not (tells_words f.act)) (tells_cancelled o f) free.0 in
+    let free = wanted_any (not (tells_words f.act) || tells_cancelled (worded_in l) f) _ (in_reach (nat_lt n 32) _ Any h (λ e. absurd (search (rules, arith)))).1 in
+    let form = none_of (not (tells_words f.act)) (tells_cancelled (worded_in l) f) free.0 in
     let tells : tells_words f.act ≡ true = turned (tells_words f.act) form.0 in
     let alike = any_fits (has_data f.act) renewed o.current o.home words free.1 ∙ sym (any_fits (has_data f.act) renewed o.current o.home f.shown free.1) in
-    let cancelled = by_known o (record f { shown = words }) (o.current && is_some o.home) refl form.1 ∙ sym (by_known o f (o.current && is_some o.home) refl form.1) in
+    let cancelled = cancelled_alike (worded_in l) f words form.1 in
     let home : (if tells_words f.act then Some words else o.home) ≡ Some words = ap (λ (b : Bool). if b then Some words else o.home) tells in
     let next_so : Bool → Option (List ℕ) → Observed = λ c u. record {
       public = public_after f o.public;
@@ -206,8 +231,9 @@ any_sent s words f h =
       λ i. so (cancelled i) (home i),
     )
 
-any_given : (s : Watched) (words : List ℕ) (g : HomeFlit) → wanted s (Down g) ≡ Any → (is_taken s (flit_with (Down g) words) ≡ is_taken s (Down g)) × (watch s (flit_with (Down g) words) ≡ with_home words (watch s (Down g)))
-any_given s words g h =
+any_given : (l : WatchedWords) (words : List ℕ) (g : HomeFlit) → wanted l (Down g) ≡ Any → (is_taken l.line (flit_with (Down g) words) ≡ is_taken l.line (Down g)) × (watch l.line (flit_with (Down g) words) ≡ with_home words (watch l.line (Down g)))
+any_given l words g h =
+    let s = l.line in
     let o = s.seen in
     let n = g.agent.0 in
     let given = given_reach (shows_told g.grant (o.told n)) (gives_data g.grant) _ Any (in_reach (nat_lt n 32) _ Any h (λ e. absurd (search (rules, arith)))).1 (λ e. absurd (search (rules, arith))) (λ e. absurd (search (rules, arith))) in
@@ -229,10 +255,6 @@ any_given s words g h =
       λ i. so (home i),
     )
 
-any_taken_itself : (s : Watched) (words : List ℕ) (e : Flit) → wanted s e ≡ Any → (is_taken s (flit_with e words) ≡ is_taken s e) × (watch s (flit_with e words) ≡ with_home words (watch s e))
-any_taken_itself s words (Up f) = any_sent s words f
-any_taken_itself s words (Down g) = any_given s words g
-
 -- words that tell nothing
 not_free : (b k : Bool) → (if b then Nothing else wanted_if k) ≢ Free
 not_free true k h = absurd (search (rules, arith))
@@ -244,9 +266,10 @@ free_reach true c true h = absurd (search (rules, arith))
 free_reach true c false h = absurd (search (rules, arith))
 free_reach false c k h = refl
 
-free_taken_itself : (s : Watched) (words : List ℕ) (e : Flit) → wanted s e ≡ Free → (is_taken s (flit_with e words) ≡ is_taken s e) × (watch s (flit_with e words) ≡ watch s e)
-free_taken_itself s words (Up f) h = absurd (not_free (not (tells_words f.act) || tells_cancelled s.seen f) _ (in_reach (nat_lt f.agent.0 32) _ Free h (λ e. absurd (search (rules, arith)))).1)
-free_taken_itself s words (Down g) h =
+free_taken_itself : (l : WatchedWords) (words : List ℕ) (e : Flit) → wanted l e ≡ Free → (is_taken l.line (flit_with e words) ≡ is_taken l.line e) × (watch l.line (flit_with e words) ≡ watch l.line e)
+free_taken_itself l words (Up f) h = absurd (not_free (not (tells_words f.act) || tells_cancelled (worded_in l) f) _ (in_reach (nat_lt f.agent.0 32) _ Free h (λ e. absurd (search (rules, arith)))).1)
+free_taken_itself l words (Down g) h =
+    let s = l.line in
     let o = s.seen in
     let n = g.agent.0 in
     let untold = free_reach (shows_told g.grant (o.told n)) (gives_data g.grant) (is_some o.home) (in_reach (nat_lt n 32) _ Free h (λ e. absurd (search (rules, arith)))).1 in
@@ -285,23 +308,23 @@ pub either_way : (b : Bool) → (if b then Nothing else Nothing) ≡ Nothing
 either_way true = refl
 either_way false = refl
 
-wanted_act : (l : WatchedWords) (w : Watched) (n : Agent) (a : Act) (v : List ℕ) → wanted w (Up (record { agent = n; act = a; shown = v })) ≢ Nothing
+wanted_act : (l w : WatchedWords) (n : Agent) (a : Act) (v : List ℕ) → wanted w (Up (record { agent = n; act = a; shown = v })) ≢ Nothing
     → counted_by_word l (Up (record { agent = n; act = a; shown = v })) ≡ Up (record { agent = n; act = a; shown = v })
 wanted_act l w n (Load word) v some = absurd (some (either_way (nat_lt n.0 32)))
 wanted_act l w n other v some = refl
 
-plain_wanted : (l : WatchedWords) (w : Watched) (e : Flit) → wanted w e ≢ Nothing → counted_by_word l e ≡ e
+plain_wanted : (l w : WatchedWords) (e : Flit) → wanted w e ≢ Nothing → counted_by_word l e ≡ e
 plain_wanted l w (Up f) some = wanted_act l w f.agent f.act f.shown some
 plain_wanted l w (Down g) some = refl
 
-pub wanted_as : (w : Watched) (e : Flit) (words : List ℕ) → wanted w (flit_with e words) ≡ wanted w e
+pub wanted_as : (w : WatchedWords) (e : Flit) (words : List ℕ) → wanted w (flit_with e words) ≡ wanted w e
 wanted_as w (Up f) words = refl
 wanted_as w (Down g) words = refl
 
-plain_with : (l : WatchedWords) (w : Watched) (e : Flit) (words : List ℕ) → wanted w e ≢ Nothing → counted_by_word l (flit_with e words) ≡ flit_with e words
+plain_with : (l w : WatchedWords) (e : Flit) (words : List ℕ) → wanted w e ≢ Nothing → counted_by_word l (flit_with e words) ≡ flit_with e words
 plain_with l w e words some = plain_wanted l w (flit_with e words) (λ none. some (sym (wanted_as w e words) ∙ none))
 
-is_some_wanted : (w : Watched) (e : Flit) (x : Wanted) → x ≢ Nothing → wanted w e ≡ x → wanted w e ≢ Nothing
+is_some_wanted : (w : WatchedWords) (e : Flit) (x : Wanted) → x ≢ Nothing → wanted w e ≡ x → wanted w e ≢ Nothing
 is_some_wanted w e x some is none = some (sym is ∙ none)
 
 -- WORDS THAT LOADS AND STORES TOLD
@@ -310,6 +333,17 @@ kept_words : (z : Stores) (a : Act) (forget later empty : Bool) (known other wor
 kept_words Hidden (Store word) forget later empty known other words h = refl
 kept_words Listed (Store word) forget later empty known other words h = no (sym h)
 kept_words z act forget later empty known other words h = refl
+
+-- what has no words doesn't differ by them
+wordless_bare : (a : Act) → not (tells_words a || looks a) ≡ true → has_data a ≡ false
+wordless_bare a h = by (has_data a) (writes a) (looks a) h
+  where
+    by : (d w k : Bool) → not ((d || w) || k) ≡ true → d ≡ false
+    by true w k h = no h
+    by false w k h = refl
+
+wordless_alike : (l : Worded) (f : CacheFlit) → is_wordless (Up f) ≡ true → differs_by_word l f ≡ false
+wordless_alike l f h = ap (λ (b : Bool). b && (not l.seen.current && not (agree l.words f.shown))) (wordless_bare f.act h)
 
 pub apart : WordlessFlitsAreApart
 apart l words (Up f) h none =
@@ -321,8 +355,10 @@ apart l words (Up f) h none =
     let home = worded_in (homed words l) in (
       ap (is_taken_worded (homed words l)) there ∙ ((λ i. same.0 i && fits_words o f) ∙ sym (ap (is_taken_worded l) here)),
       ap (watch_worded (homed words l)) there
-          ∙ ((λ i. record { line = same.1 i; words = words_after f home })
-          ∙ (ap (λ (k : Words). record { line = with_home words (watch s (Up f)); words = k })
+          ∙ (ap (λ (b : Bool). record { line = watch_as (with_home words s) (Up f) b; words = words_after f home }) (wordless_alike home f h)
+          ∙ (λ i. record { line = same.1 i; words = words_after f home })
+          ∙ ap (λ (b : Bool). record { line = with_home words (watch_as s (Up f) b); words = words_after f home }) (sym (wordless_alike o f h))
+          ∙ (ap (λ (k : Words). record { line = with_home words (watch_as s (Up f) (differs_by_word o f)); words = k })
           (kept_words s.seen.public.stores f.act (forgets o f) (counts_later o f) (may_be_empty (s.seen.told f.agent.0).told) (known_words home) (known_words o) l.words none)
           ∙ sym (ap (λ (x : Flit). homed words (watch_worded l x)) here))),
     )
@@ -368,41 +404,41 @@ whole_bare : (a : Act) → writes a ≡ true → has_data a ≡ false
 whole_bare NonCopyBackWrData h = refl
 whole_bare other h = no h
 
-any_worded : (l : WatchedWords) (words : List ℕ) (f : CacheFlit) → wanted l.line (Up f) ≡ Any → fits_words (worded_in l) (record f { shown = words }) ≡ agree (copy_words (worded_in l) f) words
+any_worded : (l : WatchedWords) (words : List ℕ) (f : CacheFlit) → wanted l (Up f) ≡ Any → fits_words (worded_in l) (record f { shown = words }) ≡ agree (copy_words (worded_in l) f) words
 any_worded l words f h =
     let o = l.line.seen in
     let n = f.agent.0 in
-    let free = wanted_any (not (tells_words f.act) || tells_cancelled o f) _ (in_reach (nat_lt n 32) _ Any h (λ e. absurd (search (rules, arith)))).1 in
-    let tells : tells_words f.act ≡ true = turned (tells_words f.act) (none_of (not (tells_words f.act)) (tells_cancelled o f) free.0).0 in
+    let free = wanted_any (not (tells_words f.act) || tells_cancelled (worded_in l) f) _ (in_reach (nat_lt n 32) _ Any h (λ e. absurd (search (rules, arith)))).1 in
+    let tells : tells_words f.act ≡ true = turned (tells_words f.act) (none_of (not (tells_words f.act)) (tells_cancelled (worded_in l) f) free.0).0 in
     fit_is (has_data f.act) (writes f.act) (renewed (worded_in l) f) o.current (may_read_any (worded_in l) f) (is_placed f.act) (fits_load f.act l.words) o.home l.words words
     (told_placed f.act tells) (told_fits f.act l.words tells) tells (whole_bare f.act) free.1
 
 pub any_taken : AnyWordsAreTaken
 any_taken l words (Up f) h =
     let s = l.line in
-    let some = is_some_wanted s (Up f) Any (λ none. absurd (search (rules, arith))) h in
-    let same = any_taken_itself s words (Up f) h in
-    let here = plain_wanted l s (Up f) some in
-    let there = plain_with l s (Up f) words some in
-    let o = worded_in l in (
+    let some = is_some_wanted l (Up f) Any (λ none. absurd (search (rules, arith))) h in
+    let o = worded_in l in
+    let same = any_sent l words f h in
+    let here = plain_wanted l l (Up f) some in
+    let there = plain_with l l (Up f) words some in (
       ap (is_taken_worded l) there ∙ ((λ i. same.0 i && fits_words o (record f { shown = words })) ∙ ap (λ (b : Bool). is_taken s (Up f) && b) (any_worded l words f h)),
       ap (watch_worded l) there
           ∙ ((λ i. record { line = same.1 i; words = words_after f o })
           ∙ sym (ap (λ (x : Flit). homed words (watch_worded l x)) here)),
     )
-any_taken l words (Down g) h = let same = any_taken_itself l.line words (Down g) h in (
+any_taken l words (Down g) h = let same = any_given l words g h in (
   ap (λ (b : Bool). b && true) same.0,
   ap (λ (s : Watched). record { line = s; words = words_granted g (worded_in l) }) same.1,
 )
 
 pub free_taken : FreeWordsAreTaken
-free_taken l words (Up f) h = absurd (not_free (not (tells_words f.act) || tells_cancelled l.line.seen f) _ (in_reach (nat_lt f.agent.0 32) _ Free h (λ e. absurd (search (rules, arith)))).1)
-free_taken l words (Down g) h = let same = free_taken_itself l.line words (Down g) h in (
+free_taken l words (Up f) h = absurd (not_free (not (tells_words f.act) || tells_cancelled (worded_in l) f) _ (in_reach (nat_lt f.agent.0 32) _ Free h (λ e. absurd (search (rules, arith)))).1)
+free_taken l words (Down g) h = let same = free_taken_itself l words (Down g) h in (
   ap (λ (b : Bool). b && true) same.0,
   ap (λ (s : Watched). record { line = s; words = words_granted g (worded_in l) }) same.1,
 )
 
 pub known_taken : KnownWordsAreTaken
 known_taken l e h t =
-    let some = is_some_wanted l.line e Known (λ none. absurd (search (rules, arith))) h in
-    known_taken_itself l.line e h (left (is_taken l.line e) _ (ap (is_taken_worded l) (sym (plain_wanted l l.line e some)) ∙ t))
+    let some = is_some_wanted l e Known (λ none. absurd (search (rules, arith))) h in
+    known_taken_itself l e h (left (is_taken l.line e) _ (ap (is_taken_worded l) (sym (plain_wanted l l e some)) ∙ t))

@@ -25,6 +25,7 @@ mod Legal
 pub mod ListedWords
 mod ListedKnown
 pub mod WordedSent
+mod WordedAlike
 mod WordedGiven
 mod WordedCounted
 mod ListedBefore

@@ -14,9 +14,9 @@ use Rattle.chi_observer.specs.declared.observer.AgentSeen.{AgentSeen}
 use Rattle.chi_observer.specs.declared.observer.Observer.{Observer}
 use Rattle.chi_observer.specs.Rules.{awaits_moment, makes, settles, lets_go, throws, tells_words, passes_duty, needs_duty}
 use Rattle.chi_observer.specs.Moments.{is_issue, shown_after, waits_after}
-use Rattle.chi_observer.specs.Tables.{Known, told_after, renews, shows_told}
+use Rattle.chi_observer.specs.Tables.{Known, renews, shows_told}
 use Rattle.chi_observer.specs.Worlds.{put}
-use Rattle.chi_observer.specs.Observed.{Observed, differs, next, next_home}
+use Rattle.chi_observer.specs.Observed.{Observed, next_as, next_home}
 use Rattle.chi_observer.specs.Runs.{nothing_told}
 use Rattle.chi_observer.specs.Lines.{nobody, agent_of, known_of, observed, agent_after, agent_granted, Watched, shown_of, shown_here, waits_here, moment_here, nothing_watched}
 use Rattle.chi_observer.proofs.Finite.{no}
@@ -39,16 +39,15 @@ abbrev pub whole : Stores → List AgentSeen → Option (List ℕ) → Bool → 
 whole z agents home current duty thrown = record { stores = z; agents = agents; home = home; current = current; duty = duty; thrown = thrown; waits = false; shown = [] }
 
 module _ (z : Stores) (agents : List AgentSeen) (home : Option (List ℕ)) (current duty thrown : Bool) (x : AgentSeen) (home' : Option (List ℕ)) (current' duty' thrown' : Bool) where
-  pub sent_after : (f : CacheFlit) (b : Bool) → f.agent.0 < length agents → x ≡ agent_after f.act (agent_of agents f.agent.0) b → b ≡ differs (observed (whole z agents home current duty thrown)) f → home' ≡ (if tells_words f.act then Some f.shown else home) → current' ≡ (if tells_words f.act then true else (if renews z f.act (lets_go (agent_of agents f.agent.0).snooped) (agent_of agents f.agent.0).due (known_of (agent_of agents f.agent.0)) then false else current)) → duty' ≡ (duty || passes_duty f.act) → thrown' ≡ (if tells_words f.act then false else thrown || throws f.act (lets_go (agent_of agents f.agent.0).snooped)) → observed (whole z (slice_set agents f.agent.0 x) home' current' duty' thrown') ≡ next (observed (whole z agents home current duty thrown)) f
-  sent_after f b low e hb hv hc hd hh =
+  pub sent_after : (f : CacheFlit) (b : Bool) → f.agent.0 < length agents → x ≡ agent_after f.act (agent_of agents f.agent.0) b → home' ≡ (if tells_words f.act then Some f.shown else home) → current' ≡ (if tells_words f.act then true else (if renews z f.act (lets_go (agent_of agents f.agent.0).snooped) (agent_of agents f.agent.0).due (known_of (agent_of agents f.agent.0)) then false else current)) → duty' ≡ (duty || passes_duty f.act) → thrown' ≡ (if tells_words f.act then false else thrown || throws f.act (lets_go (agent_of agents f.agent.0).snooped)) → observed (whole z (slice_set agents f.agent.0 x) home' current' duty' thrown') ≡ next_as (observed (whole z agents home current duty thrown)) f b
+  sent_after f b low e hv hc hd hh =
       let n = f.agent.0 in
       made_same _ _ _ _ _ _ _ _ _ _ _ _ _ _ _
       (mapped (λ a. a.due) agents n x low ∙ ap (λ (y : AgentSeen). put n y.due (λ (m : ℕ). (agent_of agents m).due)) e)
       (mapped (λ a. a.snooped) agents n x low ∙ ap (λ (y : AgentSeen). put n y.snooped (λ (m : ℕ). (agent_of agents m).snooped)) e)
       hd
       hh
-      (mapped known_of agents n x low ∙ ap (λ (y : AgentSeen). put n (known_of y) (λ (m : ℕ). known_of (agent_of agents m))) e
-      ∙ ap (λ (z : Bool). put n (told_after f.act (agent_of agents n).due (known_of (agent_of agents n)) z) (λ (m : ℕ). known_of (agent_of agents m))) hb)
+      (mapped known_of agents n x low ∙ ap (λ (y : AgentSeen). put n (known_of y) (λ (m : ℕ). known_of (agent_of agents m))) e)
       hv
       hc
 
@@ -64,10 +63,10 @@ module _ (z : Stores) (agents : List AgentSeen) (home : Option (List ℕ)) (curr
       hv
       hc
 
-  pub sent_by : (f : CacheFlit) (n : ℕ) (b shows r goes : Bool) → n ≡ f.agent.0 → n < length agents → x ≡ agent_after f.act (agent_of agents n) b → b ≡ differs (observed (whole z agents home current duty thrown)) f → shows ≡ tells_words f.act → goes ≡ lets_go (agent_of agents n).snooped → r ≡ renews z f.act goes (agent_of agents n).due (known_of (agent_of agents n)) → home' ≡ (if shows then Some f.shown else home) → current' ≡ (if shows then true else (if r then false else current)) → duty' ≡ (duty || passes_duty f.act) → thrown' ≡ (if tells_words f.act then false else thrown || throws f.act goes) → observed (whole z (slice_set agents n x) home' current' duty' thrown') ≡ next (observed (whole z agents home current duty thrown)) f
-  sent_by f n b shows r goes hn low e hb hs hg hr hv hc hd hh =
+  pub sent_by : (f : CacheFlit) (n : ℕ) (b shows r goes : Bool) → n ≡ f.agent.0 → n < length agents → x ≡ agent_after f.act (agent_of agents n) b → shows ≡ tells_words f.act → goes ≡ lets_go (agent_of agents n).snooped → r ≡ renews z f.act goes (agent_of agents n).due (known_of (agent_of agents n)) → home' ≡ (if shows then Some f.shown else home) → current' ≡ (if shows then true else (if r then false else current)) → duty' ≡ (duty || passes_duty f.act) → thrown' ≡ (if tells_words f.act then false else thrown || throws f.act goes) → observed (whole z (slice_set agents n x) home' current' duty' thrown') ≡ next_as (observed (whole z agents home current duty thrown)) f b
+  sent_by f n b shows r goes hn low e hs hg hr hv hc hd hh =
       ap (λ (k : ℕ). observed (whole z (slice_set agents k x) home' current' duty' thrown')) hn
-      ∙ sent_after f b (subst (λ (k : ℕ). k < length agents) hn low) (e ∙ ap (λ (k : ℕ). agent_after f.act (agent_of agents k) b) hn) hb
+      ∙ sent_after f b (subst (λ (k : ℕ). k < length agents) hn low) (e ∙ ap (λ (k : ℕ). agent_after f.act (agent_of agents k) b) hn)
       (hv ∙ ap (λ (z : Bool). if z then Some f.shown else home) hs)
       (hc ∙ ap (λ (z : Bool). if z then true else (if r then false else current)) hs
       ∙ ap (λ (z : Bool). if tells_words f.act then true else (if z then false else current)) (hr ∙ ap (λ (y : Bool). renews z f.act y (agent_of agents n).due (known_of (agent_of agents n))) hg ∙ ap (λ (k : ℕ). renews z f.act (lets_go (agent_of agents k).snooped) (agent_of agents k).due (known_of (agent_of agents k))) hn))

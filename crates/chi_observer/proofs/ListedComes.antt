@@ -13,9 +13,9 @@ use Rattle.chi_observer.specs.Copies.Copy.{UniqueEmpty}
 use Rattle.chi_observer.specs.Rules.{allows, are_hidden, has_data, has_word, hides_stores, is_request, is_resending, lets_go, lets_store, looks, reads_any, reads_later, stores, tells_words, word_at, writes}
 use Rattle.chi_observer.specs.Tables.{Known, fits_told, most, renews}
 use Rattle.chi_observer.specs.Worlds.{Drift, Sends, World, all_below, put}
-use Rattle.chi_observer.specs.Observed.{Meaning, Observed, Sound, fits, fits_word, next, takes, words_fit}
+use Rattle.chi_observer.specs.Observed.{Meaning, Observed, Sound, differs, fits, fits_word, next, next_as, takes, words_fit}
 use Rattle.chi_observer.specs.Laws.{ComesBy}
-use Rattle.chi_observer.specs.Worded.{MeaningWords, SendsWord, Worded, Words, agree, all_words, counts_later, fits_known, fits_load, fits_words, forgets, has_stored, is_open, is_placed, known_words, may_be_empty, next_worded, no_words, takes_worded, words_by, words_stored}
+use Rattle.chi_observer.specs.Worded.{MeaningWords, SendsWord, Worded, Words, agree, all_words, counts_later, differs_by_word, fits_known, fits_load, fits_words, forgets, has_stored, is_open, is_placed, known_words, may_be_empty, next_worded, no_words, renewed, takes_worded, words_after, words_by, words_stored}
 use Rattle.chi_observer.proofs.Finite.{no, left, right, both}
 use Rattle.chi_observer.proofs.Facts.{load_holds_data, no_data, of_form, one_of, or_here, or_there, other_of, reach_self, top_copy}
 use Rattle.chi_observer.proofs.Words.{any_word, known_word}
@@ -28,13 +28,41 @@ use Rattle.chi_observer.proofs.ListedKnown.{HomeKnown}
 use Rattle.chi_observer.proofs.WordedSent.{full_copy, never_any, unrenewed}
 use Rattle.chi_observer.proofs.ListedBefore.{emptied, emptied_meant, emptied_sends, resent, store_silent, write_looks, write_stores}
 
+-- its data are as known, so what is told of copies is as nobody's words told it
+abbrev pub next_listed : Worded → CacheFlit → Worded
+next_listed l f = record { seen = next l.seen f; words = words_after f l }
+
+agreed : (p c h r g rest b : Bool) → (b && (p && (c || ((not h || (r || g)) && rest)))) ≡ true → (h ≡ true → r ≡ false) → (h && (not c && not g)) ≡ false
+agreed p c false r g rest b t e = refl
+agreed p true true r g rest b t e = refl
+agreed p false true r true rest b t e = refl
+agreed true false true r false rest true t e = let q : r ≡ false = e refl in no (sym (ap (λ (x : Bool). (x || false) && rest) q) ∙ t)
+agreed false false true r false rest true t e = no t
+agreed p false true r false rest false t e = no t
+
+data_unstored : (a : Act) → has_data a ≡ true → stores a ≡ false
+data_unstored (Store word) h = no h
+data_unstored other h = refl
+
+listed_next : (l : Worded) (f : CacheFlit) → l.seen.public.stores ≡ AllListed → takes_worded l f ≡ true → next_as l.seen f (differs_by_word l f || differs l.seen f) ≡ next l.seen f
+listed_next l f listed t =
+    let d : Due = l.seen.public.due f.agent.0 in
+    let k : Known = l.seen.told f.agent.0 in
+    let x : Bool = lets_go (l.seen.public.snooped f.agent.0) in
+    ap (λ (b : Bool). next_as l.seen f (b || differs l.seen f))
+    (agreed (is_placed f.act) l.seen.current (has_data f.act) (renewed l f) (agree l.words f.shown) _ (takes l.seen f) t
+    (λ h. ap (λ (z : Stores). renews z f.act x d k) listed ∙ unrenewed f.act x d k (data_unstored f.act h)))
+
+pub led_listed : (l : Worded) (f : CacheFlit) (w : World) → l.seen.public.stores ≡ AllListed → takes_worded l f ≡ true → MeaningWords (next_worded l f) w → MeaningWords (next_listed l f) w
+led_listed l f w listed t m = subst (λ (o : Observed). MeaningWords (record { seen = o; words = words_after f l }) w) (listed_next l f listed t) m
+
 -- where a world comes from
 pub record ComesByWord (l : Worded) (f : CacheFlit) (w' : World) : Type 0 where
   pub before : World
   pub sent : World
   pub meant : MeaningWords l before
   pub sends : SendsWord l.seen.public f before sent
-  pub drifts : Drift (next_worded l f).seen.public sent w'
+  pub drifts : Drift (next_listed l f).seen.public sent w'
 
 -- THE WORDS OF A FLIT
 -- where all stores are listed there is none beside
@@ -143,7 +171,7 @@ still_not false true c h e = refl
 still_not false false c h e = e
 
 -- THE WORLD BEFORE
-module _ (l : Worded) (f : CacheFlit) (w' : World) (listed : l.seen.public.stores ≡ AllListed) (sound : Sound l.seen) (home : HomeKnown l.seen) (low : f.agent.0 < 32) (take : takes_worded l f ≡ true) (m : MeaningWords (next_worded l f) w') where
+module _ (l : Worded) (f : CacheFlit) (w' : World) (listed : l.seen.public.stores ≡ AllListed) (sound : Sound l.seen) (home : HomeKnown l.seen) (low : f.agent.0 < 32) (take : takes_worded l f ≡ true) (m : MeaningWords (next_listed l f) w') where
   abbrev n : ℕ
   n = f.agent.0
 
@@ -383,5 +411,5 @@ module _ (l : Worded) (f : CacheFlit) (w' : World) (listed : l.seen.public.store
   comes_by false true q e = write_comes e o.current refl
   comes_by false false q e = plain_comes q e
 
-pub words_come : (l : Worded) (f : CacheFlit) (w' : World) → l.seen.public.stores ≡ AllListed → Sound l.seen → HomeKnown l.seen → f.agent.0 < 32 → takes_worded l f ≡ true → MeaningWords (next_worded l f) w' → ComesByWord l f w'
+pub words_come : (l : Worded) (f : CacheFlit) (w' : World) → l.seen.public.stores ≡ AllListed → Sound l.seen → HomeKnown l.seen → f.agent.0 < 32 → takes_worded l f ≡ true → MeaningWords (next_listed l f) w' → ComesByWord l f w'
 words_come l f w' listed sound home low take m = comes_by l f w' listed sound home low take m (stores f.act) (writes f.act) refl refl

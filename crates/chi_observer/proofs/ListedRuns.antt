@@ -6,7 +6,7 @@ use Rattle.chi_observer.specs.declared.flits.Flit.TheVariants.{Up, Down}
 use Rattle.chi_observer.specs.Worlds.{Public, Coherent, Drift, Gives, IsSafe, public_after, public_granted}
 use Rattle.chi_observer.specs.Observed.{Sound, takes, next, next_home}
 use Rattle.chi_observer.specs.Runs.{Accepted, IsExact, public_of, seen}
-use Rattle.chi_observer.specs.Worded.{SendsWord, fits_words, next_worded, next_worded_home}
+use Rattle.chi_observer.specs.Worded.{SendsWord, fits_words, next_worded_home}
 use Rattle.chi_observer.specs.ListedRuns.{AcceptedWords, AcceptedWordsAreCoherent, AcceptedWordsAreExact, AcceptedWordsAreLegal, LegalWordsAreAccepted, listed}
 use Rattle.chi_observer.proofs.Finite.{no, left}
 use Rattle.chi_observer.proofs.Cache.{coherent}
@@ -18,7 +18,7 @@ use Rattle.chi_observer.proofs.Legal.{has_needed, has_shown}
 use Rattle.chi_observer.proofs.ListedKnown.{HomeKnown, known_given, known_kept}
 use Rattle.chi_observer.proofs.WordedSent.{words_lead, words_taken}
 use Rattle.chi_observer.proofs.WordedGiven.{words_drift, words_lead_home}
-use Rattle.chi_observer.proofs.ListedComes.{words_come}
+use Rattle.chi_observer.proofs.ListedComes.{led_listed, next_listed, words_come}
 use Rattle.chi_observer.proofs.ListedHome.{some_informed, some_world, words_come_home, words_safe_taken}
 
 -- by the observer's own rules too
@@ -54,8 +54,8 @@ exact_words (Up f ∷ es) a =
     let same_public : (next (seen AllListed es) f).public ≡ public_of AllListed (Up f ∷ es) = ap (public_after f) e.public in
     let sound : Sound (next (seen AllListed es) f) = kept (seen AllListed es) f e.sound a.1 (left (takes (seen AllListed es) f) (fits_words (listed es) f) a.2) in
     record {
-      meant = λ w h. words_drift (next_worded (listed es) f) h.1 w sound (subst (λ p. Drift p h.1 w) (sym same_public) h.4)
-          (words_lead (listed es) f h.0 h.1 e.sound a.1 (before.meant h.0 h.2) (subst (λ p. SendsWord p f h.0 h.1) (sym e.public) h.3));
+      meant = λ w h. words_drift (next_listed (listed es) f) h.1 w sound (subst (λ p. Drift p h.1 w) (sym same_public) h.4)
+          (led_listed (listed es) f h.1 (seen_listed es a.0) a.2 (words_lead (listed es) f h.0 h.1 e.sound a.1 (before.meant h.0 h.2) (subst (λ p. SendsWord p f h.0 h.1) (sym e.public) h.3)));
       after = λ w m. let c = words_come (listed es) f w (seen_listed es a.0) e.sound (home_known es a.0) a.1 a.2 m in
           (c.before, c.sent, before.after c.before c.meant, subst (λ p. SendsWord p f c.before c.sent) e.public c.sends, subst (λ p. Drift p c.sent w) same_public c.drifts);
     }
@@ -89,7 +89,7 @@ pub legal_words : AcceptedWordsAreLegal
 legal_words [] a = a
 legal_words (Up f ∷ es) a =
     let e = seen_exact es a.0 in
-    let behind = some_world (next_worded (listed es) f) in
+    let behind = some_world (next_listed (listed es) f) in
     let c = words_come (listed es) f behind.0 (seen_listed es a.0) e.sound (home_known es a.0) a.1 a.2 behind.1 in
     (legal_words es a.0, a.1, (c.before, c.sent, (exact_words es a.0).after c.before c.meant, subst (λ p. SendsWord p f c.before c.sent) e.public c.sends), a.3)
 legal_words (Down g ∷ es) a =

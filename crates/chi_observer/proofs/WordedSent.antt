@@ -2,6 +2,7 @@
 use Rattle.std.proofs.Common.{◌≡◌, ◌≢◌, ℕ, ◌<◌, List, refl, sym, ap, subst, ◌∙◌}
 use Rattle.std.specs.Prelude.{Bool, true, false, ◌==◌, ◌&&◌, ◌||◌, not, Option, Some, None, nat_lt, if◌then◌else◌}
 use Rattle.std.proofs.lemmas.Bool.{eqb-true, ltb-true, or_from, or_parts}
+use Rattle.chi_observer.specs.declared.told.Told.{Told}
 use Rattle.chi_observer.specs.declared.flits.Due.{Due}
 use Rattle.chi_observer.specs.declared.flits.Due.TheVariants.{Acknowledgement}
 use Rattle.chi_observer.specs.declared.flits.Stores.{Stores}
@@ -10,19 +11,21 @@ use Rattle.chi_observer.specs.declared.flits.Word.{Word}
 use Rattle.chi_observer.specs.declared.flits.Act.{Act}
 use Rattle.chi_observer.specs.declared.flits.Act.TheVariants.{Load, Store}
 use Rattle.chi_observer.specs.declared.flits.CacheFlit.{CacheFlit}
-use Rattle.chi_observer.specs.Copies.{Copy, Held, holds_data, is_unique}
-use Rattle.chi_observer.specs.Rules.{acts, are_hidden, has_data, has_word, leaves_any, lets_go, looks, may_store, reads_any, reads_later, stores, tells_words, throws, word_at, writes}
-use Rattle.chi_observer.specs.Tables.{Known, most, reach, renews}
+use Rattle.chi_observer.specs.Copies.{Copy, Held, compatible, holds_data, is_unique, same}
+use Rattle.chi_observer.specs.Copies.Copy.{UniqueDirty}
+use Rattle.chi_observer.specs.Rules.{acts, are_hidden, due_after, has_data, has_word, is_free, leaves_any, lets_go, looks, may_store, reads_any, reads_later, stores, tells_words, throws, word_at, writes}
+use Rattle.chi_observer.specs.Tables.{Known, fits_told, fresh, goes_with, most, reach, renews, strongest, told_after}
 use Rattle.chi_observer.specs.Worlds.{World, put}
-use Rattle.chi_observer.specs.Observed.{Observed, Sound, Unstored, next}
-use Rattle.chi_observer.specs.WordedLaws.{WordedFlitsAreTaken, WordedFlitsLead}
-use Rattle.chi_observer.specs.Worded.{Worded, MeaningWords, SendsWord, Words, agree, all_words, counts_later, fits_known, fits_load, forgets, has_stored, is_placed, known_words, may_be_empty, may_read_any, next_worded, no_words, renewed, takes_worded, words_by}
+use Rattle.chi_observer.specs.Observed.{Meaning, Observed, Sound, Unstored, differs, next, next_as, takes}
+use Rattle.chi_observer.specs.WordedLaws.{WordedFlitsAreTaken, WordedFlitsKeepSound, WordedFlitsLead}
+use Rattle.chi_observer.specs.Worded.{Worded, MeaningWords, SendsWord, Words, agree, all_words, counts_later, differs_by_word, fits_known, fits_load, forgets, has_stored, is_placed, known_words, may_be_empty, may_read_any, next_worded, no_words, renewed, takes_worded, words_by}
 use Rattle.chi_observer.proofs.Finite.{no, left, right, both, implies, follow}
 use Rattle.chi_observer.proofs.Spots.{DueCopies, each_due_copy, if_some}
-use Rattle.chi_observer.proofs.Facts.{and_false, flip, load_holds_data, or_here, or_there, other_of, read_calm, read_told}
+use Rattle.chi_observer.proofs.Facts.{and_false, flip, forward, implied, load_holds_data, or_here, or_there, other_of, read_calm, read_told, turned}
 use Rattle.chi_observer.proofs.Copies.{each_below}
-use Rattle.chi_observer.proofs.Put.{here, split, there, unlike}
-use Rattle.chi_observer.proofs.Cache.{any_well, before, calm_of, closed_of, data_closed, last_by, leads, shown_last, still, taken, unstored, unstored_by}
+use Rattle.chi_observer.proofs.Put.{everywhere, here, split, there, unlike}
+use Rattle.chi_observer.proofs.Cache.{any_well, before, calm_of, closed_of, data_closed, last_by, leads, shown_last, still, stored_by, taken, unstored, unstored_by}
+use Rattle.chi_observer.proofs.Comes.{kept}
 use Rattle.chi_observer.proofs.ListedWords.{agree_at, agree_by, all_unstored, fits_word_of, same_back}
 
 where_so : (a b : Bool) → (a ≡ true → b ≡ true) → (not a || b) ≡ true
@@ -134,6 +137,17 @@ current_before true r c e h = no (sym h)
 current_before false true c e h = no (sym e)
 current_before false false c e h = (refl, h)
 
+-- whether a copy was stored to isn't asked of what is cancelled
+same_told : (n : ℕ) (x y : Known) (k : ℕ → Known) (at : ℕ) → x.told ≡ y.told → (put n x k at).told ≡ (put n y k at).told
+same_told n x y k at e = go (at == n)
+  where
+    go : (b : Bool) → (if b then x else k at).told ≡ (if b then y else k at).told
+    go true = e
+    go false = refl
+
+same_fresh : (z : Stores) (d : Due) (h : Held) (x y : Known) → x.told ≡ y.told → fresh z d x h ≡ fresh z d y h
+same_fresh z d h x y e = ap (λ (t : Told). are_hidden z && (is_free d h && (is_unique (strongest t) && same h.copy UniqueDirty))) e
+
 module _ (l : Worded) (f : CacheFlit) (w w' : World) (sound : Sound l.seen) (low : f.agent.0 < 32) (m : MeaningWords l w) (send : SendsWord l.seen.public f w w') where
   abbrev o : Observed
   o = l.seen
@@ -190,6 +204,40 @@ module _ (l : Worded) (f : CacheFlit) (w w' : World) (sound : Sound l.seen) (low
   kept_by true h e = no (sym e ∙ left _ _ (any_well o f w w' sound low m.seen send.sends h))
   kept_by false h e = h
 
+  -- where its data are others than the known ones its copy was stored to
+  foreign : has_data f.act ≡ true → o.current ≡ false → agree l.words f.shown ≡ false → (e : Bool) → fresh mode d t s ≡ e → (has_data f.act && e) ≡ true
+  foreign h c g true e = both (has_data f.act) true h refl
+  foreign h c g false e = no (sym g ∙ subst (λ (u : List ℕ). agree l.words u ≡ true) (sym (shown_last o f w w' sound low m.seen send.sends h)) (m.words c (unstored o f w w' sound low m.seen send.sends h e)))
+
+  by_word : differs_by_word l f ≡ true → (has_data f.act && fresh mode d t s) ≡ true
+  by_word h =
+      let rest : (not o.current && not (agree l.words f.shown)) ≡ true = right (has_data f.act) _ h in
+      foreign (left _ _ h) (turned o.current (left _ _ rest)) (turned _ (right (not o.current) _ rest)) (fresh mode d t s) refl
+
+  differing : (a b : Bool) → differs_by_word l f ≡ a → differs o f ≡ b → (a || b) ≡ true → (has_data f.act && fresh mode d t s) ≡ true
+  differing true b x y h = by_word x
+  differing false b x y h = stored_by o f w w' sound low m.seen send.sends (fresh mode d t s) refl (y ∙ h)
+
+  abbrev differ : Bool
+  differ = differs_by_word l f || differs o f
+
+  reached : reach mode (due_after f.act d) (told_after f.act d t differ) (w'.state n) ≡ true
+  reached = left _ _ (left _ _ (right (fits_told mode f.act x d t) _
+      (forward mode f.act x d t s (w'.state n) differ (m.seen.told n low) (implied differ _ (differing (differs_by_word l f) (differs o f) refl refl)) send.sends.act)))
+
+  unstored_as : Unstored (next_as o f differ) w' → Unstored (next o f) w'
+  unstored_as u k lk = same_fresh mode (put n (due_after f.act d) o.public.due k) (w'.state k) (put n (told_after f.act d t (differs o f)) o.told k) (put n (told_after f.act d t differ) o.told k)
+      (same_told n (told_after f.act d t (differs o f)) (told_after f.act d t differ) o.told k refl) ∙ u k lk
+
+  led_as : Meaning (next o f) w' → Meaning (next_as o f differ) w'
+  led_as g = record {
+    told = everywhere (λ k x y. k < 32 → reach mode x y (w'.state k) ≡ true) n (due_after f.act d) (told_after f.act d t differ) o.public.due o.told (λ _. reached)
+        (λ k h lk. subst (λ x. reach o.public.stores (o.public.due k) (o.told k) x ≡ true) (sym (send.sends.others.state k lk h)) (m.seen.told k lk));
+    words = g.words;
+    home = g.home;
+    current = λ c u. g.current c (unstored_as u);
+  }
+
   same_words : (next o f).current ≡ false → Unstored (next o f) w' → renewed l f ≡ false → (w'.last ≡ w.last) × (agree l.words w.last ≡ true)
   same_words c u e =
       let was = current_before (tells_words f.act) (renewed l f) o.current e c in (
@@ -199,9 +247,9 @@ module _ (l : Worded) (f : CacheFlit) (w w' : World) (sound : Sound l.seen) (low
 
   pub led_words : MeaningWords (next_worded l f) w'
   led_words = record {
-    seen = leads o f w w' sound low m.seen send.sends;
+    seen = led_as (leads o f w w' sound low m.seen send.sends);
     words = λ c u. after_agrees mode f.act (forgets l f) (counts_later l f) (may_be_empty t.told) (holds_data s.copy) (known_words l) l.words w.last w'.last send.stored
-        (λ q listed. (had_data q, known_agrees l w listed m)) (λ q e. same_words c u (or_parts (renewed l f) _ e).0) (λ k e a. loaded_last k a);
+        (λ q listed. (had_data q, known_agrees l w listed m)) (λ q e. same_words c (unstored_as u) (or_parts (renewed l f) _ e).0) (λ k e a. loaded_last k a);
   }
 
 pub words_taken : WordedFlitsAreTaken
@@ -209,3 +257,19 @@ words_taken l f w w' sound low m send = taken_words l f w w' sound low m send
 
 pub words_lead : WordedFlitsLead
 words_lead l f w w' sound low m send = led_words l f w w' sound low m send
+
+same_goes : (x x' y y' : Known) → x.told ≡ x'.told → y.told ≡ y'.told → goes_with x y ≡ goes_with x' y'
+same_goes x x' y y' e h = λ i. compatible (strongest (e i)) (strongest (h i))
+
+pub words_kept : WordedFlitsKeepSound
+words_kept l f sound low take =
+    let o : Observed = l.seen in
+    let n : ℕ = f.agent.0 in
+    let told_if : Bool → Known = λ b. told_after f.act (o.public.due n) (o.told n) b in
+    let differ : Bool = differs_by_word l f || differs o f in
+    let alike : (k : ℕ) → (put n (told_if differ) o.told k).told ≡ (put n (told_if (differs o f)) o.told k).told = λ k. same_told n (told_if differ) (told_if (differs o f)) o.told k refl in
+    let g : Sound (next o f) = kept o f sound low (left (takes o f) _ take) in
+    record {
+      pairs = λ i j li lj e. same_goes (put n (told_if differ) o.told i) (put n (told_if (differs o f)) o.told i) (put n (told_if differ) o.told j) (put n (told_if (differs o f)) o.told j) (alike i) (alike j) ∙ g.pairs i j li lj e;
+      owner = λ c h. let d = g.owner c h in (d.0, d.1, ap (λ (t : Told). same (strongest t) UniqueDirty) (alike d.0) ∙ d.2);
+    }

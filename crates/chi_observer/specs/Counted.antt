@@ -1,7 +1,6 @@
 -- A load that tells of a store which nobody saw counts as that store (docs/OBSERVER.md, "Flits of a cache").
-use Rattle.std.specs.Prelude.{◌≡◌, ℕ, ◌<◌, Bool, true, false, ◌&&◌, not, if◌then◌else◌, nat_lt}
+use Rattle.std.specs.Prelude.{◌≡◌, ℕ, ◌<◌, Bool, true, false, ◌&&◌, not, nat_lt}
 use Rattle.chi_observer.specs.declared.flits.Word.{Word}
-use Rattle.chi_observer.specs.declared.flits.Act.{Act}
 use Rattle.chi_observer.specs.declared.flits.Act.TheVariants.{Load, Store}
 use Rattle.chi_observer.specs.declared.flits.CacheFlit.{CacheFlit}
 use Rattle.chi_observer.specs.declared.flits.Flit.{Flit}
@@ -11,7 +10,7 @@ use Rattle.chi_observer.specs.Rules.{has_word, looks, may_be_free, reads_any}
 use Rattle.chi_observer.specs.Tables.{most}
 use Rattle.chi_observer.specs.Worlds.{World, Drift}
 use Rattle.chi_observer.specs.Observed.{Observed, Sound, Meaning, fits_word, next, takes}
-use Rattle.chi_observer.specs.Lines.{Watched, is_taken, watch}
+use Rattle.chi_observer.specs.Lines.{Watched}
 
 -- the value last stored is the home's, but for stores that nobody saw; and the copy of n has data, and may have been stored to
 abbrev pub may_tell_store : Observed → ℕ → Bool
@@ -29,22 +28,6 @@ may_tell s (Down g) = false
 -- the store of that word
 abbrev pub stored : CacheFlit → Word → CacheFlit
 stored f word = record f { act = Store word }
-
-abbrev pub counted_by : Act → Observed → CacheFlit → CacheFlit
-counted_by (Load word) o f = if nat_lt f.agent.0 32 && tells_store o f.agent.0 word then stored f word else f
-counted_by act o f = f
-
--- the flit as which one counts
-abbrev pub counted : Watched → Flit → Flit
-counted s (Up f) = Up (counted_by f.act s.seen f)
-counted s (Down g) = Down g
-
--- a line that is told of each flit as which it counts
-abbrev pub takes_counted : Watched → Flit → Bool
-takes_counted s e = is_taken s (counted s e)
-
-abbrev pub watch_counted : Watched → Flit → Watched
-watch_counted s e = watch s (counted s e)
 
 -- THE LAW
 -- Such a load is taken, and so is the store.

@@ -23,7 +23,7 @@ use Rattle.chi_observer.specs.Tables.{Known, strongest, is_cancelled, told_behin
 use Rattle.chi_observer.specs.Worlds.{all_below, is_overwritten}
 use Rattle.chi_observer.specs.Runs.{nothing_told}
 use Rattle.chi_observer.specs.Observed.{Observed, words_fit, takes, takes_home, fits, goes}
-use Rattle.chi_observer.specs.Moments.{after, has_moment, is_issue, may_be_dirty, may_be_stored, opens_moment, shown_after, tells_of, waits_after}
+use Rattle.chi_observer.specs.Moments.{after_as, has_moment, is_issue, may_be_dirty, may_be_stored, opens_moment, shown_after, tells_of, waits_after}
 
 abbrev pub nobody : AgentSeen
 nobody = record { told = I; cancelled = false; due = Nothing; snooped = None }
@@ -65,11 +65,14 @@ takes_flit s (Down g) = nat_lt g.agent.0 32 && (has_moment s.seen s.shown g && t
 abbrev pub is_taken : Watched → Flit → Bool
 is_taken s f = is_judged f && takes_flit s f
 
-abbrev pub watch : Watched → Flit → Watched
-watch s e =
-    let o : Observed = after s.seen e in
+abbrev pub watch_as : Watched → Flit → Bool → Watched
+watch_as s e d =
+    let o : Observed = after_as s.seen e d in
     let waits : Bool = waits_after o e s.waits in
     record { seen = o; waits = waits; shown = λ n. waits && shown_after o e s.shown n }
+
+abbrev pub watch : Watched → Flit → Watched
+watch s e = watch_as s e false
 
 -- which reasons hold of a flit that is judged
 abbrev pub is_sent_reason : Observed → CacheFlit → Reason → Bool

@@ -10,12 +10,15 @@ use Rattle.chi_observer.specs.Copies.{is_unique, is_dirty}
 use Rattle.chi_observer.specs.Rules.{hides_stores, looks, is_request, needs_quiet, awaits_moment, reads_once, opens_moment as opens_by, needs_moment}
 use Rattle.chi_observer.specs.Tables.{Known, most}
 use Rattle.chi_observer.specs.Worlds.{all_below}
-use Rattle.chi_observer.specs.Observed.{Observed, next, next_home}
+use Rattle.chi_observer.specs.Observed.{Observed, differs, next_as, next_home}
 
--- what is kept behind a flit of either side
+-- what is kept behind a flit of either side; d: its data are known to be others than the value
+abbrev pub after_as : Observed → Flit → Bool → Observed
+after_as o (Up f) d = next_as o f (d || differs o f)
+after_as o (Down g) d = next_home o g
+
 abbrev pub after : Observed → Flit → Observed
-after o (Up f) = next o f
-after o (Down g) = next_home o g
+after o e = after_as o e false
 
 -- an agent's request
 abbrev pub is_issue : Flit → ℕ → Bool

@@ -65,13 +65,17 @@ home_after f home = if tells_words f.act then Some f.shown else home
 abbrev pub current_after : CacheFlit → Bool → Bool → Bool
 current_after f renewed current = if tells_words f.act then true else (if renewed then false else current)
 
-abbrev pub next : Observed → CacheFlit → Observed
-next o f = record {
+-- d: its data are known to be others than the value
+abbrev pub next_as : Observed → CacheFlit → Bool → Observed
+next_as o f d = record {
   public = public_after f o.public;
-  told = put f.agent.0 (told_after f.act (o.public.due f.agent.0) (o.told f.agent.0) (differs o f)) o.told;
+  told = put f.agent.0 (told_after f.act (o.public.due f.agent.0) (o.told f.agent.0) d) o.told;
   home = home_after f o.home;
   current = current_after f (renews o.public.stores f.act (lets_go (o.public.snooped f.agent.0)) (o.public.due f.agent.0) (o.told f.agent.0)) o.current;
 }
+
+abbrev pub next : Observed → CacheFlit → Observed
+next o f = next_as o f (differs o f)
 
 -- A FLIT OF THE HOME
 -- no other copy is told to be what doesn't go with the agent's then, nor to be any where the flit says that none is left

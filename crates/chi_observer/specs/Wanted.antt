@@ -6,36 +6,44 @@ use Rattle.chi_observer.specs.declared.flits.Flit.{Flit}
 use Rattle.chi_observer.specs.declared.flits.Flit.TheVariants.{Up, Down}
 use Rattle.chi_observer.specs.declared.wanted.Wanted.{Wanted}
 use Rattle.chi_observer.specs.declared.wanted.Wanted.TheVariants.{Nothing, Known, Any, Free}
-use Rattle.chi_observer.specs.Rules.{are_hidden, gives_data, has_data, lets_go, looks, reads_any, stores, tells_words}
-use Rattle.chi_observer.specs.Tables.{is_cancelled, most, renews, shows_told}
+use Rattle.chi_observer.specs.Rules.{are_hidden, gives_data, has_data, looks, reads_any, stores, tells_words}
+use Rattle.chi_observer.specs.Tables.{is_cancelled, most, shows_told}
+use Rattle.chi_observer.specs.Worlds.{all_below}
 use Rattle.chi_observer.specs.Observed.{Observed, fits}
 use Rattle.chi_observer.specs.Lines.{Watched, is_taken}
-use Rattle.chi_observer.specs.Worded.{Words, agree, copy_words, no_words}
+use Rattle.chi_observer.specs.Worded.{Worded, Words, agree, copy_words, no_words, renewed}
 use Rattle.chi_observer.specs.WordedLines.{WatchedWords, takes_by_word, watch_by_word, worded_in}
 
 abbrev pub wanted_if : Bool → Wanted
 wanted_if known = if known then Known else Any
 
--- behind a request that was retried, words that differ from the known ones may tell besides that it is cancelled
+-- behind a request that was retried, words that differ from the known ones tell besides that it is cancelled, where some are
+-- known
 abbrev pub cancelled_if : Observed → CacheFlit → Bool → Bool
 cancelled_if o f differ = is_cancelled f.act (o.public.due f.agent.0) (o.told f.agent.0) differ
 
-abbrev pub tells_cancelled : Observed → CacheFlit → Bool
-tells_cancelled o f = (o.current && is_some o.home) && (cancelled_if o f true && not (cancelled_if o f false))
+abbrev pub none_known : Words → Bool
+none_known words = all_below 8 (λ p. not (is_some (words p)))
+
+abbrev pub may_differ : Worded → Bool
+may_differ l = if l.seen.current then is_some l.seen.home else not (none_known l.words)
+
+abbrev pub tells_cancelled : Worded → CacheFlit → Bool
+tells_cancelled l f = may_differ l && (cancelled_if l.seen f true && not (cancelled_if l.seen f false))
 
 -- data of a cache are the home's words, where the value last stored is and no store may have come since; else any
-abbrev pub wanted_sent : Observed → CacheFlit → Wanted
-wanted_sent o f =
-    if not (tells_words f.act) || tells_cancelled o f then Nothing
-    else wanted_if (has_data f.act && (not (renews o.public.stores f.act (lets_go (o.public.snooped f.agent.0)) (o.public.due f.agent.0) (o.told f.agent.0)) && (o.current && is_some o.home)))
+abbrev pub wanted_sent : Worded → CacheFlit → Wanted
+wanted_sent l f =
+    if not (tells_words f.act) || tells_cancelled l f then Nothing
+    else wanted_if (has_data f.act && (not (renewed l f) && (l.seen.current && is_some l.seen.home)))
 
 -- data of the home are its own words; those that come to a dirty copy tell nothing
 abbrev pub wanted_given : Observed → HomeFlit → Wanted
 wanted_given o g = if shows_told g.grant (o.told g.agent.0) then wanted_if (is_some o.home) else if gives_data g.grant then Free else Nothing
 
-abbrev pub wanted : Watched → Flit → Wanted
-wanted s (Up f) = if nat_lt f.agent.0 32 then wanted_sent s.seen f else Nothing
-wanted s (Down g) = if nat_lt g.agent.0 32 then wanted_given s.seen g else Nothing
+abbrev pub wanted : WatchedWords → Flit → Wanted
+wanted s (Up f) = if nat_lt f.agent.0 32 then wanted_sent (worded_in s) f else Nothing
+wanted s (Down g) = if nat_lt g.agent.0 32 then wanted_given s.line.seen g else Nothing
 
 -- a load reads the home's word, which is known, where the value last stored is and no store may have come since
 abbrev pub reads_home_sent : Observed → CacheFlit → Bool
@@ -83,13 +91,13 @@ wanted_words l (Up f) = copy_words (worded_in l) f
 wanted_words l (Down g) = no_words
 
 abbrev pub AnyWordsAreTaken : Type 0
-AnyWordsAreTaken = (l : WatchedWords) (words : List ℕ) (e : Flit) → wanted l.line e ≡ Any
+AnyWordsAreTaken = (l : WatchedWords) (words : List ℕ) (e : Flit) → wanted l e ≡ Any
     → (takes_by_word l (flit_with e words) ≡ (is_taken l.line e && agree (wanted_words l e) words)) × (watch_by_word l (flit_with e words) ≡ homed words (watch_by_word l e))
 
 -- Data that tell nothing by their words are taken with any.
 abbrev pub FreeWordsAreTaken : Type 0
-FreeWordsAreTaken = (l : WatchedWords) (words : List ℕ) (e : Flit) → wanted l.line e ≡ Free → (takes_by_word l (flit_with e words) ≡ takes_by_word l e) × (watch_by_word l (flit_with e words) ≡ watch_by_word l e)
+FreeWordsAreTaken = (l : WatchedWords) (words : List ℕ) (e : Flit) → wanted l e ≡ Free → (takes_by_word l (flit_with e words) ≡ takes_by_word l e) × (watch_by_word l (flit_with e words) ≡ watch_by_word l e)
 
 -- Data whose words are to be known are taken with the home's words alone.
 abbrev pub KnownWordsAreTaken : Type 0
-KnownWordsAreTaken = (l : WatchedWords) (e : Flit) → wanted l.line e ≡ Known → takes_by_word l e ≡ true → fits l.line.seen.home (flit_words e) ≡ true
+KnownWordsAreTaken = (l : WatchedWords) (e : Flit) → wanted l e ≡ Known → takes_by_word l e ≡ true → fits l.line.seen.home (flit_words e) ≡ true

@@ -14,7 +14,7 @@ use Rattle.chi_observer.specs.Copies.{holds_data, is_unique}
 use Rattle.chi_observer.specs.Rules.{are_hidden, has_data, hides_stores, is_request, is_resending, lets_go, makes, reads_any, reads_later, word_at, writes}
 use Rattle.chi_observer.specs.Tables.{most, renews}
 use Rattle.chi_observer.specs.Worlds.{Public, World, Sends, all_below, put, reads}
-use Rattle.chi_observer.specs.Observed.{Observed, Meaning, Unstored, takes, next, next_home}
+use Rattle.chi_observer.specs.Observed.{Observed, Meaning, Unstored, differs, takes, next_as, next_home}
 use Rattle.chi_observer.specs.Counted.{stored, tells_store}
 
 -- THE TRUTH
@@ -121,8 +121,12 @@ words_by z other forget later empty known words = if forget then no_words else w
 abbrev pub words_after : CacheFlit → Worded → Words
 words_after f l = words_by l.seen.public.stores f.act (forgets l f) (counts_later l f) (may_be_empty (l.seen.told f.agent.0).told) (known_words l) l.words
 
+-- its data are known to be others than the value, where that isn't the home's
+abbrev pub differs_by_word : Worded → CacheFlit → Bool
+differs_by_word l f = has_data f.act && (not l.seen.current && not (agree l.words f.shown))
+
 abbrev pub next_worded : Worded → CacheFlit → Worded
-next_worded l f = record { seen = next l.seen f; words = words_after f l }
+next_worded l f = record { seen = next_as l.seen f (differs_by_word l f || differs l.seen f); words = words_after f l }
 
 -- what the words of a copy's data are to be
 abbrev pub copy_words : Worded → CacheFlit → Words

@@ -11,8 +11,8 @@ use Rattle.chi_observer.specs.declared.observer.Reason.TheVariants.{NotSent, Oth
 use Rattle.chi_observer.specs.declared.worded.KnownWords.{KnownWords}
 use Rattle.chi_observer.specs.declared.worded.WordedObserver.{WordedObserver}
 use Rattle.chi_observer.specs.Rules.{word_at}
-use Rattle.chi_observer.specs.Lines.{Watched, is_reason, is_taken, nothing_watched, watch, watched}
-use Rattle.chi_observer.specs.Worded.{Worded, Words, counted_load, fits_words, is_placed, no_words, words_after, words_granted}
+use Rattle.chi_observer.specs.Lines.{Watched, is_reason, is_taken, nothing_watched, watch_as, watched}
+use Rattle.chi_observer.specs.Worded.{Worded, Words, counted_load, differs_by_word, fits_words, is_placed, no_words, words_after, words_granted}
 
 -- those of the line that are known; none beyond the eight
 abbrev pub words_of : KnownWords → Words
@@ -44,8 +44,12 @@ abbrev pub words_behind : Worded → Flit → Words
 words_behind l (Up f) = words_after f l
 words_behind l (Down g) = words_granted g l
 
+abbrev pub differs_worded : Worded → Flit → Bool
+differs_worded l (Up f) = differs_by_word l f
+differs_worded l (Down g) = false
+
 abbrev pub watch_worded : WatchedWords → Flit → WatchedWords
-watch_worded s e = record { line = watch s.line e; words = words_behind (worded_in s) e }
+watch_worded s e = record { line = watch_as s.line e (differs_worded (worded_in s) e); words = words_behind (worded_in s) e }
 
 -- a line that is told of each flit as which it counts
 abbrev pub counted_by_word : WatchedWords → Flit → Flit

@@ -162,7 +162,7 @@ impl Arrivals {
             Held::Retried => Err(Untaken::SetAside(Aside::TwoRequests)),
             Held::Evicted => Err(Untaken::SetAside(Aside::TwoRequests)),
             Held::Nothing => {
-                if let Err(reason) = self.seen.take_itself(Flit::Up(sent)) {
+                if let Err(reason) = self.seen.take(Flit::Up(sent)) {
                     return Err(Untaken::Fault(reason));
                 }
                 self.put(at, own.resent());
@@ -289,7 +289,7 @@ impl Arrivals {
     {
         let at = usize::from(sent.agent.0);
         let mut seen = before;
-        if let Err(reason) = seen.take_itself(Flit::Up(sent)) {
+        if let Err(reason) = seen.take(Flit::Up(sent)) {
             return Err(Untaken::Fault(reason));
         }
         let shown = surely_shown(&seen, &self.seen.shown, &self.agents, at);
@@ -372,7 +372,7 @@ impl Arrivals {
         if is_early(flit.grant, &self.agents) {
             return Err(Untaken::Fault(Reason::Busy));
         }
-        if let Err(reason) = self.seen.take_itself(Flit::Down(flit)) {
+        if let Err(reason) = self.seen.take(Flit::Down(flit)) {
             return Err(self.untaken(flit, reason));
         }
         let agent = self.seen.agents[at];
@@ -465,7 +465,7 @@ fn issued_on(
         set_due(&mut behind, at, Due::Completion(kind));
         return Ok(behind);
     }
-    if let Err(reason) = behind.take_itself(Flit::Up(request)) {
+    if let Err(reason) = behind.take(Flit::Up(request)) {
         return Err(reason);
     }
     Ok(behind)

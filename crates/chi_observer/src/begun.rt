@@ -213,7 +213,7 @@ impl Begun {
             (λ reason. is_reason (supposed_in at (begun self.old) flit) flit reason ≡ true) }
     {
         let mut next = self.supposed(flit, at);
-        next.take_itself(flit)?;
+        next.take(flit)?;
         self.settle(next, flit, at);
         Ok(())
     }

@@ -2,9 +2,9 @@
 
 ghost use Rattle.std.specs.Prelude.{◌≡◌, ◌<◌, ◌&&◌};
 ghost use Rattle.chi_observer.specs.Lines.{observed, watched};
-ghost use Rattle.chi_observer.specs.Counted.{CountedLoadsAreTaken, CountedLoadsLead, CountedLoadsCome, counted, may_tell, may_tell_store, tells_store};
+ghost use Rattle.chi_observer.specs.Counted.{CountedLoadsAreTaken, CountedLoadsLead, CountedLoadsCome, may_tell, may_tell_store, tells_store};
 
-use crate::flits::{Act, CacheFlit, Flit, Word};
+use crate::flits::{Act, Flit, Word};
 use crate::observer::{Observer, may_read};
 use crate::rules::looks;
 use chi_flit::Agent;
@@ -20,29 +20,6 @@ pub fn counted_loads()
 {}
 
 impl Observer {
-    /// The flit as which one counts. A load of another word than the home's counts as a store of that word, where the value
-    /// last stored is the home's but for stores that nobody saw, and its copy, which has data, may have been stored to so.
-    /// Any other flit counts as itself.
-    /// Source: `docs/OBSERVER.md`, "Flits of a cache".
-    pub(crate) fn counted(&self, flit: Flit) -> Flit
-        ensures { result ≡ counted (watched self.now) flit }
-    {
-        match flit {
-            Flit::Up(sent) => match sent.act {
-                Act::Load(word) => {
-                    if sent.agent.0 < 32 && self.tells_store(sent.agent, word) {
-                        let act = Act::Store(word);
-                        Flit::Up(CacheFlit { act, ..sent })
-                    } else {
-                        flit
-                    }
-                }
-                _ => flit,
-            },
-            Flit::Down(_) => flit,
-        }
-    }
-
     /// Whether a load of this word, where the value last stored may be the home's, tells of a store which nobody saw.
     pub(crate) fn tells_store(&self, agent: Agent, word: Word) -> bool
         requires { agent.0 < 32 }

@@ -1,7 +1,7 @@
 //! Laws of the rules.
 
 ghost use Rattle.chi_observer.specs.Runs.{LegalIsAccepted, AcceptedIsLegal, AcceptedIsExact, AcceptedIsCoherent, ReadOnceShowsValue};
-ghost use Rattle.chi_observer.specs.WordedLaws.{WordedFlitsAreTaken, WordedFlitsLead, WordedHomeFlitsLead, WordsAreClosed, StoresByWordAreTaken, StoresByWordLead};
+ghost use Rattle.chi_observer.specs.WordedLaws.{WordedFlitsAreTaken, WordedFlitsKeepSound, WordedFlitsLead, WordedHomeFlitsLead, WordsAreClosed, StoresByWordAreTaken, StoresByWordLead, UnloadedFlitsAreAlike};
 ghost use Rattle.chi_observer.specs.ListedRuns.{LegalWordsAreAccepted, AcceptedWordsAreLegal, AcceptedWordsAreExact, AcceptedWordsAreCoherent};
 ghost use Rattle.chi_observer.specs.Laws.{MeaningIsCoherent, MeaningIsClosed, CacheFlitsAreTaken, CacheFlitsArePossible, CacheFlitsLead, CacheFlitsTellTheValue, CacheFlitsKeepSound, MeaningComes, HomeFlitsKeepSound, HomeFlitsAreSafe, HomeFlitsLead, HomeFlitsArePossible, SafeFlitsAreTaken, MeaningComesByHome};
 
@@ -51,15 +51,18 @@ pub fn traces()
 
 /// The law that a flit of a cache that some world sends word by word is taken, and that it and one of the home lead to worlds
 /// that the known words behind it stand for too, and so do hidden steps. Where a load counts as a store, that is taken, and each
-/// world whose copy has the word is one that it leaves.
+/// world whose copy has the word is one that it leaves. Where neither a load nor a store has told a word, any other flit is taken
+/// as by an observer that keeps none, of which `traces` speaks, and tells none.
 /// Source: `docs/OBSERVER.md`, "What is proved".
 pub fn worded_flits()
     ensures taken { WordedFlitsAreTaken }
     ensures leads { WordedFlitsLead }
+    ensures sound { WordedFlitsKeepSound }
     ensures given { WordedHomeFlitsLead }
     ensures closed { WordsAreClosed }
     ensures counted { StoresByWordAreTaken }
     ensures stored { StoresByWordLead }
+    ensures alike { UnloadedFlitsAreAlike }
 {}
 
 /// The law of traces whose stores are all listed, word by word: one is accepted exactly where it is legal; the worlds behind

@@ -4,10 +4,9 @@ ghost use Rattle.std.specs.Prelude.{◌≡◌, ◌<◌, ◌&&◌, ◌||◌, IfEr
 ghost use Rattle.chi_observer.specs.Rules.{allows, has_word, reads_any, word_at, lets_go, makes, needs_duty, passes_duty, settles, tells_words, throws};
 ghost use Rattle.chi_observer.specs.Tables.{fills_told, shows_told, fits_told, is_cancelled, renews, strongest};
 ghost use Rattle.chi_observer.specs.Worlds.{all_below, home_may};
-ghost use Rattle.chi_observer.specs.Observed.{differs, fits, fits_word, goes, takes, takes_home, next, next_home};
-ghost use Rattle.chi_observer.specs.Moments.{after, has_moment};
-ghost use Rattle.chi_observer.specs.Counted.{counted, takes_counted, watch_counted};
-ghost use Rattle.chi_observer.specs.Lines.{agent_after, agent_granted, goes_beside, is_given_reason, is_judged_reason, is_quiet, is_reason, is_sent_reason, is_taken, known_of, none_overwrites, nothing_watched, observed, stands_beside, takes_flit, watch, watched};
+ghost use Rattle.chi_observer.specs.Observed.{differs as differs_by_home, fits, fits_word, goes, takes, takes_home, next_as, next_home};
+ghost use Rattle.chi_observer.specs.Moments.{after_as, has_moment};
+ghost use Rattle.chi_observer.specs.Lines.{agent_after, agent_granted, goes_beside, is_given_reason, is_judged_reason, is_quiet, is_reason, is_sent_reason, is_taken, known_of, none_overwrites, nothing_watched, observed, stands_beside, takes_flit, watch, watch_as, watched};
 
 use crate::flits::{Act, CacheFlit, Due, Flit, Grant, HomeFlit, Stores};
 use crate::kinds::Snoop;
@@ -117,43 +116,43 @@ impl Observer {
         }
     }
 
-    /// Takes the next flit of the line. `Ok` exactly where the rules take it: a flit of a cache where stores and drops
-    /// that nobody saw explain it, and one of the home where it is safe whatever they were. Else the first rule that
-    /// it breaks, and nothing changes. A load that tells of a store that nobody saw is taken as that store.
+    /// Takes the next flit of the line, as itself. `Ok` exactly where the rules take it: a flit of a cache where stores and
+    /// drops that nobody saw explain it, and one of the home where it is safe whatever they were. Else the first rule that
+    /// it breaks, and nothing changes.
     /// Source: `docs/OBSERVER.md`, "Flits of a cache", "Flits of the home".
-    pub fn take(&mut self, flit: Flit) -> Result<(), Reason>
-        ensures taken { is_ok result ≡ takes_counted (watched self.old) flit }
-        ensures after { OnOk result (watched self.new ≡ watch_counted (watched self.old) flit) }
-        ensures kept { OnErr result (self.new ≡ self.old) }
-        ensures reason { IfErr result
-            (λ reason. is_reason (watched self.old) (counted (watched self.old) flit) reason ≡ true) }
-    {
-        let counted = self.counted(flit);
-        self.take_itself(counted)
-    }
-
-    /// Takes the next flit of the line, which counts as itself.
-    pub(crate) fn take_itself(&mut self, flit: Flit) -> Result<(), Reason>
+    pub(crate) fn take(&mut self, flit: Flit) -> Result<(), Reason>
         ensures taken { is_ok result ≡ is_taken (watched self.old) flit }
         ensures after { OnOk result (watched self.new ≡ watch (watched self.old) flit) }
+        ensures kept { OnErr result (self.new ≡ self.old) }
+        ensures reason { IfErr result (λ reason. is_reason (watched self.old) flit reason ≡ true) }
+    {
+        self.take_as(flit, false)
+    }
+
+    /// The same; `differs` says that its data are known to be others than the value last stored, by what is kept beside.
+    pub(crate) fn take_as(&mut self, flit: Flit, differs: bool) -> Result<(), Reason>
+        ensures taken { is_ok result ≡ is_taken (watched self.old) flit }
+        ensures after { OnOk result
+            (watched self.new ≡ watch_as (watched self.old) flit differs) }
         ensures kept { OnErr result (self.new ≡ self.old) }
         ensures reason { IfErr result (λ reason. is_reason (watched self.old) flit reason ≡ true) }
     {
         if !flit.is_judged() {
             return Err(Reason::NotJudged);
         }
-        self.take_judged(flit)
+        self.take_judged(flit, differs)
     }
 
     /// Takes a flit that is judged.
-    fn take_judged(&mut self, flit: Flit) -> Result<(), Reason>
+    fn take_judged(&mut self, flit: Flit, differs: bool) -> Result<(), Reason>
         ensures taken { is_ok result ≡ takes_flit (watched self.old) flit }
-        ensures after { OnOk result (watched self.new ≡ watch (watched self.old) flit) }
+        ensures after { OnOk result
+            (watched self.new ≡ watch_as (watched self.old) flit differs) }
         ensures kept { OnErr result (self.new ≡ self.old) }
         ensures reason { IfErr result
             (λ reason. is_judged_reason (watched self.old) flit reason ≡ true) }
     {
-        self.take_told(flit)?;
+        self.take_told(flit, differs)?;
         self.waits = waits_behind(&self.agents, self.waits, flit);
         self.shown = shown_behind(
             self.stores,
@@ -168,9 +167,10 @@ impl Observer {
 
     /// Takes what a flit that is judged tells of copies.
     #[tactic(auto, using(crate::proofs::Lines::refused))]
-    fn take_told(&mut self, flit: Flit) -> Result<(), Reason>
+    fn take_told(&mut self, flit: Flit, differs: bool) -> Result<(), Reason>
         ensures taken { is_ok result ≡ takes_flit (watched self.old) flit }
-        ensures after { OnOk result (observed self.new ≡ after (observed self.old) flit) }
+        ensures after { OnOk result
+            (observed self.new ≡ after_as (observed self.old) flit differs) }
         ensures stores { self.new.stores ≡ self.old.stores }
         ensures shown { self.new.shown ≡ self.old.shown }
         ensures waits { self.new.waits ≡ self.old.waits }
@@ -183,7 +183,7 @@ impl Observer {
                 if sent.agent.0 >= 32 {
                     return Err(Reason::NoAgent);
                 }
-                self.take_sent(sent)
+                self.take_sent(sent, differs)
             }
             Flit::Down(given) => {
                 if given.agent.0 >= 32 {
@@ -207,10 +207,11 @@ impl Observer {
     }
 
     /// Takes a flit of a cache.
-    fn take_sent(&mut self, flit: CacheFlit) -> Result<(), Reason>
+    fn take_sent(&mut self, flit: CacheFlit, differs: bool) -> Result<(), Reason>
         requires { flit.agent.0 < 32 }
         ensures taken { is_ok result ≡ takes (observed self.old) flit }
-        ensures after { OnOk result (observed self.new ≡ next (observed self.old) flit) }
+        ensures after { OnOk result (observed self.new
+            ≡ next_as (observed self.old) flit (differs || differs_by_home (observed self.old) flit)) }
         ensures stores { self.new.stores ≡ self.old.stores }
         ensures shown { self.new.shown ≡ self.old.shown }
         ensures waits { self.new.waits ≡ self.old.waits }
@@ -232,9 +233,9 @@ impl Observer {
         if !words_stand(self.current, shows, renewed, known, any, read) {
             return Err(Reason::OtherWords);
         }
-        let differs = shows_others(shows, self.current, known);
+        let others = shows_others(differs, shows, self.current, known);
         let tells = tells_words(flit.act);
-        self.agents[at] = agent.after(flit.act, differs);
+        self.agents[at] = agent.after(flit.act, others);
         self.duty = duty_after(self.duty, flit.act);
         self.thrown = thrown_after(self.thrown, flit.act, goes);
         self.home = shown(tells, flit.shown, self.home);
@@ -510,11 +511,12 @@ fn thrown_granted(thrown: bool, grant: Grant, due: Due) -> bool
     thrown && !(makes(grant, due) || settles(grant, due))
 }
 
-/// Whether a flit shows words that are surely not the value last stored, but for a store that nobody saw.
-fn shows_others(shows: bool, current: bool, known: bool) -> bool
-    ensures { result ≡ (shows && (current && not known)) }
+/// Whether a flit shows words that are surely not the value last stored, but for a store that nobody saw; `differs` says
+/// that what is kept beside tells so.
+fn shows_others(differs: bool, shows: bool, current: bool, known: bool) -> bool
+    ensures { result ≡ (differs || (shows && (current && not known))) }
 {
-    shows && (current && !known)
+    differs || (shows && (current && !known))
 }
 
 /// The words that are known behind a flit.

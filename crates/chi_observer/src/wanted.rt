@@ -2,13 +2,15 @@
 
 ghost use Rattle.std.specs.Prelude.{◌≡◌, ◌<◌, ◌&&◌, not};
 ghost use Rattle.chi_observer.specs.Lines.{known_of, watched};
+ghost use Rattle.chi_observer.specs.WordedLines.{worded_in, words_watched};
 ghost use Rattle.chi_observer.specs.Rules.{gives_data, looks};
 ghost use Rattle.chi_observer.specs.Tables.{renews};
-ghost use Rattle.chi_observer.specs.Wanted.{AnyWordsAreTaken, FreeWordsAreTaken, KnownWordsAreTaken, WordlessFlitsAreApart, reads_home, reads_home_sent, wanted, wanted_if, wanted_given, wanted_sent};
+ghost use Rattle.chi_observer.specs.Wanted.{AnyWordsAreTaken, FreeWordsAreTaken, KnownWordsAreTaken, WordlessFlitsAreApart, may_differ, reads_home, reads_home_sent, wanted, wanted_if, wanted_given, wanted_sent};
 
 use crate::flits::{CacheFlit, Flit, HomeFlit};
 use crate::observer::Observer;
 use crate::rules::{gives_data, has_data, lets_go, looks, tells_words};
+use crate::worded::WordedObserver;
 
 /// What the words of data have to be, where the line takes all else of their flit.
 /// Source: `docs/OBSERVER.md`, "Data in beats".
@@ -36,11 +38,11 @@ pub fn data_in_beats()
     ensures known { KnownWordsAreTaken }
 {}
 
-impl Observer {
+impl WordedObserver {
     /// What the words of a flit with data have to be; `Nothing` of every other.
     /// Source: `docs/OBSERVER.md`, "Data in beats".
     pub fn wanted(&self, flit: Flit) -> Wanted
-        ensures { result ≡ wanted (watched self.now) flit }
+        ensures { result ≡ wanted (words_watched self.now) flit }
     {
         match flit {
             Flit::Up(sent) => {
@@ -60,30 +62,30 @@ impl Observer {
         }
     }
 
-    /// The same of a flit of a cache. Behind a request that was retried, words that are others than the home's may tell that
-    /// it is cancelled.
+    /// The same of a flit of a cache. Behind a request that was retried, words that are others than the known ones tell that it
+    /// is cancelled.
     fn wanted_sent(&self, flit: CacheFlit) -> Wanted
         requires { flit.agent.0 < 32 }
-        ensures { result ≡ wanted_sent (watched self.now).seen flit }
+        ensures { result ≡ wanted_sent (worded_in (words_watched self.now)) flit }
     {
-        let agent = self.agents[usize::from(flit.agent.0)];
-        let known = self.current && self.home.is_some();
+        let agent = self.seen.agents[usize::from(flit.agent.0)];
         let cancels = agent.is_cancelled(flit.act, true) && !agent.is_cancelled(flit.act, false);
-        if !tells_words(flit.act) || (known && cancels) {
+        if !tells_words(flit.act) || (self.may_differ() && cancels) {
             return Wanted::Nothing;
         }
-        let renewed = agent.is_renewed(self.stores, flit.act, lets_go(agent.snooped));
+        let renewed = agent.is_renewed(self.seen.stores, flit.act, lets_go(agent.snooped));
+        let known = self.seen.current && self.seen.home.is_some();
         wanted_if(has_data(flit.act) && (!renewed && known))
     }
 
     /// The same of a flit of the home.
     fn wanted_given(&self, flit: HomeFlit) -> Wanted
         requires { flit.agent.0 < 32 }
-        ensures { result ≡ wanted_given (watched self.now).seen flit }
+        ensures { result ≡ wanted_given (watched self.now.seen).seen flit }
     {
-        let agent = self.agents[usize::from(flit.agent.0)];
+        let agent = self.seen.agents[usize::from(flit.agent.0)];
         if agent.is_shown(flit.grant) {
-            wanted_if(self.home.is_some())
+            wanted_if(self.seen.home.is_some())
         } else if gives_data(flit.grant) {
             Wanted::Free
         } else {
@@ -91,6 +93,19 @@ impl Observer {
         }
     }
 
+    /// Whether data of a copy may be told to be others than the value last stored.
+    fn may_differ(&self) -> bool
+        ensures { result ≡ may_differ (worded_in (words_watched self.now)) }
+    {
+        if self.seen.current {
+            self.seen.home.is_some()
+        } else {
+            !self.words.is_unknown()
+        }
+    }
+}
+
+impl Observer {
     /// Whether a flit is a load whose word has to be the home's, which is known.
     /// Source: `docs/OBSERVER.md`, "Data in beats".
     pub fn reads_home(&self, flit: Flit) -> bool

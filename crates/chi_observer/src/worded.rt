@@ -2,8 +2,9 @@
 
 ghost use Rattle.std.specs.Prelude.{◌≡◌, ◌<◌, ◌||◌, IfErr, IfSome, None, OnErr, OnOk, Some, false, if◌then◌else◌, is_ok, not, true};
 ghost use Rattle.chi_observer.specs.Rules.{has_data};
-ghost use Rattle.chi_observer.specs.Worded.{agree, all_words, copy_words, counted_load, counts_later, fits_known, fits_load, fits_words, forgets, is_open, is_placed, known_words, may_be_empty, may_read_any, no_words, renewed, tells_by_word, words_after, words_stored};
+ghost use Rattle.chi_observer.specs.Worded.{agree, all_words, copy_words, counted_load, counts_later, differs_by_word, fits_known, fits_load, fits_words, forgets, is_open, is_placed, known_words, may_be_empty, may_read_any, no_words, renewed, tells_by_word, words_after, words_stored};
 ghost use Rattle.chi_observer.specs.WordedLines.{counted_by_word, is_taken_worded, is_worded_reason, nothing_worded, takes_by_word, watch_by_word, watch_worded, worded_in, words_of, words_watched};
+ghost use Rattle.chi_observer.specs.Wanted.{none_known};
 ghost use Rattle.chi_observer.specs.Lines.{agent_of, watched};
 ghost use Rattle.chi_observer.specs.Worlds.{put};
 ghost use Rattle.chi_observer.specs.declared.flits.Flit.TheVariants.{Down, Up};
@@ -96,6 +97,17 @@ impl KnownWords {
             fits = self.fits_word(word) && fits;
         }
         fits
+    }
+
+    /// Whether none is known.
+    pub(crate) fn is_unknown(&self) -> bool
+        ensures { result ≡ none_known (words_of self.now) }
+    {
+        let mut none = true;
+        for n in 0..8 {
+            none = self.at(n).is_none() && none;
+        }
+        none
     }
 
     /// The same with this word.
@@ -231,7 +243,8 @@ impl WordedObserver {
             return Err(self.refusal(sent));
         }
         let changed = self.words_after(sent);
-        self.seen.take_itself(Flit::Up(sent))?;
+        let differs = self.differs(sent);
+        self.seen.take_as(Flit::Up(sent), differs)?;
         if let Some(words) = changed {
             self.words = words;
         }
@@ -248,7 +261,7 @@ impl WordedObserver {
             (λ reason. is_worded_reason (words_watched self.old) (Down given) reason ≡ true) }
     {
         let made = makes(given.grant, self.agent(given.agent).due);
-        self.seen.take_itself(Flit::Down(given))?;
+        self.seen.take(Flit::Down(given))?;
         if made {
             self.words = KnownWords::none();
         }
@@ -342,6 +355,13 @@ impl WordedObserver {
             | Act::NonCopyBackWrData
             | Act::Store(_) => true,
         }
+    }
+
+    /// Whether data of a copy are known to be others than the value last stored, where that isn't the home's.
+    fn differs(&self, sent: CacheFlit) -> bool
+        ensures { result ≡ differs_by_word (worded_in (words_watched self.now)) sent }
+    {
+        has_data(sent.act) && (!self.seen.current && !self.words.fits(&sent.shown))
     }
 
     /// Why a flit of a cache isn't taken whose words don't fit: first what an observer says of the copy that sends it.

@@ -2,7 +2,8 @@
 
 use chi_flit::{Agent, Data, NO_DATA, State, WordNo};
 use chi_observer::{
-    Act, Arrivals, CacheFlit, Flit, Grant, HomeFlit, Kind, Observer, Reason, Stores, Untaken, Word,
+    Act, Arrivals, CacheFlit, Flit, Grant, HomeFlit, Kind, Reason, Stores, Untaken, Word,
+    WordedObserver,
 };
 use std::process::Abort;
 
@@ -49,7 +50,7 @@ pub(crate) fn fault_of(flits: &[Flit]) -> Option<(usize, Reason)> {
 
 /// The same where stores are listed so.
 pub(crate) fn fault_where(stores: Stores, flits: &[Flit]) -> Option<(usize, Reason)> {
-    let mut observer = Observer::new(stores);
+    let mut observer = WordedObserver::new(stores);
     for (place, flit) in flits.iter().enumerate() {
         if let Err(reason) = observer.take(*flit) {
             return Some((place, reason));
@@ -60,7 +61,7 @@ pub(crate) fn fault_where(stores: Stores, flits: &[Flit]) -> Option<(usize, Reas
 
 /// What comes of last flits behind agent 0's read of the old words, alone.
 pub(crate) fn fault_beside_an_owner(rt: &impl Abort, last: &[Flit]) -> Option<(usize, Reason)> {
-    let mut observer = Observer::new(Stores::Hidden);
+    let mut observer = WordedObserver::new(Stores::Hidden);
     let opening = [
         up(0, Act::Request(Kind::ReadUnique), NO_DATA),
         down(0, Grant::CompData(State::UC), OLD),

@@ -8,12 +8,12 @@ use chi_observer::Answer::{SnpRespDataIPD, SnpRespDataSD, SnpRespI};
 use chi_observer::Grant::{CompDBIDResp, CompData, CompUC, RetryAck, Snp};
 use chi_observer::Kind::{CleanUnique, ReadShared, ReadUnique, WriteBackFull};
 use chi_observer::Snoop::{SnpShared, SnpUnique};
-use chi_observer::{Flit, Observer, Reason, Stores};
+use chi_observer::{Flit, Reason, Stores, WordedObserver};
 use std::process::Abort;
 
 /// What comes of a last flit behind agent 0's read of the old words, alone, and agent 1's request of them for itself.
 fn fault_behind_a_read(rt: &impl Abort, last: &[Flit], wanted: Option<(usize, Reason)>) {
-    let mut observer = Observer::new(Stores::Hidden);
+    let mut observer = WordedObserver::new(Stores::Hidden);
     let opening = [
         up(0, Request(ReadUnique), NO_DATA),
         down(0, CompData(UC), OLD),
@@ -134,7 +134,7 @@ fn retried_write_back() -> [Flit; 6] {
 
 /// The first flit behind those that isn't taken, and why.
 fn fault_behind_a_retry(rt: &impl Abort, last: &[Flit]) -> Option<(usize, Reason)> {
-    let mut observer = Observer::new(Stores::Hidden);
+    let mut observer = WordedObserver::new(Stores::Hidden);
     for flit in retried_write_back() {
         assert!(rt; observer.take(flit) == Ok(()));
     }

@@ -5,11 +5,11 @@ use crate::flits::{NEW, NINE, OLD, SEVEN, down, up};
 use chi_flit::State::{UC, UD};
 use chi_flit::{Data, NO_DATA, WordNo};
 use chi_observer::Act::{CompAck, CopyBackWrData, Load, Request, Resend, SnpResp, Store};
-use chi_observer::Answer::SnpRespDataIPD;
+use chi_observer::Answer::{SnpRespDataIPD, SnpRespDataSCPD};
 use chi_observer::Grant::{CompDBIDResp, CompData, CompUC, RetryAck, Snp};
-use chi_observer::Kind::{MakeUnique, ReadUnique, WriteBackFull};
-use chi_observer::Snoop::SnpUnique;
-use chi_observer::{Flit, Reason, Stores, Word, WordedObserver};
+use chi_observer::Kind::{MakeUnique, ReadShared, ReadUnique, WriteBackFull};
+use chi_observer::Snoop::{SnpShared, SnpUnique};
+use chi_observer::{Flit, Reason, Stores, Wanted, Word, WordedObserver};
 use std::process::Abort;
 
 /// Another word than the third.
@@ -250,6 +250,88 @@ fn what_was_loaded_before_the_request_is_forgotten(rt: HostRuntime) {
     let last = [
         up(0, Request(WriteBackFull), NO_DATA),
         up(0, Load(NINE), NO_DATA),
+    ];
+    let found = last_of(&rt, &mut observer, &last);
+    assert!(rt; found.is_ok(), "{found:?}");
+}
+
+/// Behind that a retry, a load of the new word, and a dirty answer of these words to a snoop.
+fn behind_an_answer(rt: &impl Abort, words: Data) -> WordedObserver {
+    let mut observer = behind_a_write_back(rt);
+    let flits = [
+        down(0, RetryAck, NO_DATA),
+        up(0, Load(NINE), NO_DATA),
+        up(1, Request(ReadShared), NO_DATA),
+        down(0, Snp(SnpShared), NO_DATA),
+        up(0, SnpResp(SnpRespDataSCPD), words),
+    ];
+    let found = last_of(rt, &mut observer, &flits);
+    assert!(rt; found.is_ok(), "{found:?}");
+    observer
+}
+
+#[test]
+fn an_answer_of_other_words_tells_that_a_retried_request_is_cancelled(rt: HostRuntime) {
+    let mut observer = behind_an_answer(&rt, OLD);
+    let seen = observer.seen.agents[0];
+    assert!(rt; seen.cancelled, "{seen:?}");
+    let found = observer.take(up(0, Resend(WriteBackFull), NO_DATA));
+    assert!(rt; found == Err(Reason::NotSent), "{found:?}");
+}
+
+#[test]
+fn an_answer_of_the_loaded_words_leaves_that_open(rt: HostRuntime) {
+    let mut observer = behind_an_answer(&rt, NEW);
+    let seen = observer.seen.agents[0];
+    assert!(rt; !seen.cancelled, "{seen:?}");
+    let found = observer.take(up(0, Resend(WriteBackFull), NO_DATA));
+    assert!(rt; found.is_ok(), "{found:?}");
+}
+
+#[test]
+fn an_answer_of_words_that_nobody_loaded_leaves_that_open(rt: HostRuntime) {
+    let mut observer = behind_a_write_back(&rt);
+    let flits = [
+        up(0, Load(FIVE), NO_DATA),
+        down(0, RetryAck, NO_DATA),
+        up(1, Request(ReadShared), NO_DATA),
+        down(0, Snp(SnpShared), NO_DATA),
+        up(0, SnpResp(SnpRespDataSCPD), LATER),
+        up(0, Resend(WriteBackFull), NO_DATA),
+    ];
+    let found = last_of(&rt, &mut observer, &flits);
+    assert!(rt; found.is_ok(), "{found:?}");
+}
+
+#[test]
+fn the_words_of_such_an_answer_tell_more_where_some_are_known(rt: HostRuntime) {
+    let mut observer = behind_a_write_back(&rt);
+    let answer = up(0, SnpResp(SnpRespDataSCPD), NO_DATA);
+    let found = observer.take(down(0, RetryAck, NO_DATA));
+    assert!(rt; found.is_ok(), "{found:?}");
+    let unknown = observer.wanted(answer);
+    assert!(rt; unknown == Wanted::Any, "{unknown:?}");
+    let found = observer.take(up(0, Load(FIVE), NO_DATA));
+    assert!(rt; found.is_ok(), "{found:?}");
+    let known = observer.wanted(answer);
+    assert!(rt; known == Wanted::Nothing, "{known:?}");
+}
+
+#[test]
+fn where_all_stores_are_listed_an_answer_tells_of_no_cancel(rt: HostRuntime) {
+    let mut observer = behind_a_read(&rt, up(0, Store(NINE), NO_DATA));
+    let flits = [
+        up(0, Request(WriteBackFull), NO_DATA),
+        down(0, RetryAck, NO_DATA),
+        up(1, Request(ReadShared), NO_DATA),
+        down(0, Snp(SnpShared), NO_DATA),
+        up(0, SnpResp(SnpRespDataSCPD), OLD),
+    ];
+    let found = last_of(&rt, &mut observer, &flits);
+    assert!(rt; found == Err(Reason::OtherWords), "{found:?}");
+    let last = [
+        up(0, SnpResp(SnpRespDataSCPD), NEW),
+        up(0, Resend(WriteBackFull), NO_DATA),
     ];
     let found = last_of(&rt, &mut observer, &last);
     assert!(rt; found.is_ok(), "{found:?}");

@@ -1,5 +1,5 @@
 use Rattle.chi_conformity.proofs.Flits.{Laws}
-use Rattle.chi_conformity.proofs.Runs.{conform, conform_by_word}
+use Rattle.chi_conformity.proofs.Runs.{conform}
 use Rattle.chi_conformity.proofs.laws.a_slice_conforms.Goals as goal
 
 pub returns : goal.returns
@@ -15,4 +15,4 @@ returns c =
       home_kept = c.home_flits.ensures.sound;
       home_leads = c.home_flits.ensures.leads;
     } in
-    record { taken = conform laws; by_word = conform_by_word laws }
+    record { taken = conform laws }

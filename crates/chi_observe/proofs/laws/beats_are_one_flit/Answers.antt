@@ -1,5 +1,5 @@
 -- By the observer's law of data in beats.
-use Rattle.chi_observe.proofs.BeatLemmas.{one_flit}
+use Rattle.chi_observe.proofs.AnyBeats.{one_flit}
 use Rattle.chi_observe.proofs.laws.beats_are_one_flit.Goals as goal
 
 pub returns : goal.returns

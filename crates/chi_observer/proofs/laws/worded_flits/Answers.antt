@@ -1,6 +1,7 @@
+use Rattle.chi_observer.proofs.WordedAlike.{alike}
 use Rattle.chi_observer.proofs.WordedCounted.{stores_lead, stores_taken}
 use Rattle.chi_observer.proofs.WordedGiven.{words_closed, words_lead_home}
-use Rattle.chi_observer.proofs.WordedSent.{words_lead, words_taken}
+use Rattle.chi_observer.proofs.WordedSent.{words_kept, words_lead, words_taken}
 use Rattle.chi_observer.proofs.laws.worded_flits.Goals as goal
 
 pub returns-clause-taken : goal.returns-clause-taken
@@ -8,6 +9,9 @@ returns-clause-taken c = words_taken
 
 pub returns-clause-leads : goal.returns-clause-leads
 returns-clause-leads c = words_lead
+
+pub returns-clause-sound : goal.returns-clause-sound
+returns-clause-sound c = words_kept
 
 pub returns-clause-given : goal.returns-clause-given
 returns-clause-given c = words_lead_home
@@ -20,3 +24,6 @@ returns-clause-counted c = stores_taken
 
 pub returns-clause-stored : goal.returns-clause-stored
 returns-clause-stored c = stores_lead
+
+pub returns-clause-alike : goal.returns-clause-alike
+returns-clause-alike c = alike

@@ -7,5 +7,5 @@ use Rattle.chi_observer.proofs.arrivals.Arrivals.answered.Goals as goal
 
 pub returns-clause-after : goal.returns-clause-after
 returns-clause-after c =
-    answered_as (arrived c.args.self.now) c.take_itself.new.self (watch (watched c.args.before) (Up c.args.sent)) c.args.sent c.from-at.result c.surely_shown-shown.result
+    answered_as (arrived c.args.self.now) c.take.new.self (watch (watched c.args.before) (Up c.args.sent)) c.args.sent c.from-at.result c.surely_shown-shown.result
     c.from-at.ensures c.in_default.ensures.after c.surely_shown-shown.ensures

@@ -18,7 +18,7 @@ returns-in-Err-clause-outcome c =
     let refused : false ≡ is_taken (watched old.seen) (Down c.args.flit) = search (rules, c.in-Err) in
     let untaken : c.untaken.result ≡ untaken_by (is_doubtful (arrived old) c.args.flit) c.in-Err.reason =
     c.untaken.ensures ∙ ap (λ (o : Observer). untaken_by (is_doubtful (arrived (record old { seen = o })) c.args.flit) c.in-Err.reason) c.in-Err.ensures.kept in
-    told_none (arrived old) (arrived (record old { seen = c.take_itself.new.self })) c.args.flit c.from-at.result c.in-Err.reason c.untaken.result c.from-at.ensures counted (sym quiet ∙ c.is_early.ensures) refused untaken
+    told_none (arrived old) (arrived (record old { seen = c.take.new.self })) c.args.flit c.from-at.result c.in-Err.reason c.untaken.result c.from-at.ensures counted (sym quiet ∙ c.is_early.ensures) refused untaken
 
 pub returns-in-Err-clause-untaken : goal.returns-in-Err-clause-untaken
 returns-in-Err-clause-untaken c =
@@ -38,7 +38,7 @@ returns-clause-outcome c =
     let quiet : c.is_early.result ≡ false = search (rules, c.if-is_early) in
     let taken : true ≡ is_taken (watched old.seen) (Down c.args.flit) = search (rules, c.in_default) in
     ap Taken c.put.ensures
-    ∙ given_as (arrived old) c.args.flit c.from-at.result (watched c.take_itself.new.self) (watched c.set_due.new.seen) c.stays_last-self.result c.due_acknowledged.result c.granted.result
+    ∙ given_as (arrived old) c.args.flit c.from-at.result (watched c.take.new.self) (watched c.set_due.new.seen) c.stays_last-self.result c.due_acknowledged.result c.granted.result
     c.from-at.ensures counted (sym quiet ∙ c.is_early.ensures) taken c.in_default.ensures.after c.set_due.ensures c.stays_last-self.ensures c.due_acknowledged.ensures c.granted.ensures
 
 pub granted-requires : goal.granted-requires

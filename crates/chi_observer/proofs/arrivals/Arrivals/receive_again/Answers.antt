@@ -15,4 +15,4 @@ returns-in_default-clause-outcome c =
     let held : (arriving_of old.agents c.from-at.result).held ≡ helds.Nothing = search (rules, arith, c.in-Nothing) in
     let taken : true ≡ is_taken (watched old.seen) (Up c.args.sent) = search (rules, c.in_default) in
     ap Taken c.put.ensures
-    ∙ again_as (arrived old) c.args.sent c.from-at.result c.resent.result (watched c.take_itself.new.self) c.from-at.ensures held taken c.in_default.ensures.after c.resent.ensures
+    ∙ again_as (arrived old) c.args.sent c.from-at.result c.resent.result (watched c.take.new.self) c.from-at.ensures held taken c.in_default.ensures.after c.resent.ensures

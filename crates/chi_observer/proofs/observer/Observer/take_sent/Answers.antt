@@ -5,8 +5,8 @@ use Rattle.chi_observer.specs.declared.flits.CacheFlit.{CacheFlit}
 use Rattle.chi_observer.specs.declared.observer.Observer.{Observer}
 use Rattle.chi_observer.specs.Rules.{allows, has_data, lets_go, reads_any}
 use Rattle.chi_observer.specs.Tables.{fits_told, renews, strongest}
-use Rattle.chi_observer.specs.Lines.{agent_of, known_of}
-use Rattle.chi_observer.specs.Observed.{fits, fits_word}
+use Rattle.chi_observer.specs.Lines.{agent_of, known_of, observed}
+use Rattle.chi_observer.specs.Observed.{fits, fits_word, next_as}
 use Rattle.chi_observer.proofs.Lines.{sent_by, all_stand, stale, refuted}
 use Rattle.chi_observer.proofs.observer.Observer.take_sent.Goals as goal
 
@@ -14,12 +14,13 @@ pub returns-clause-after : goal.returns-clause-after
 returns-clause-after c =
     let old = c.args.self.now in
     let low : c.from-at.result < length old.agents = search (rules, arith) in
-    let differs_is : c.shows_others-differs.result ≡ (has_data c.args.flit.act && (old.current && not (fits old.home c.args.flit.shown))) =
-    c.shows_others-differs.ensures ∙ ap (λ (z : Bool). z && (old.current && not c.may_be-known.result)) c.has_data-shows.ensures
-    ∙ ap (λ (z : Bool). has_data c.args.flit.act && (old.current && not z)) c.may_be-known.ensures in
+    let differs_is : c.shows_others-others.result ≡ (c.args.differs || (has_data c.args.flit.act && (old.current && not (fits old.home c.args.flit.shown)))) =
+    c.shows_others-others.ensures ∙ ap (λ (z : Bool). c.args.differs || (z && (old.current && not c.may_be-known.result))) c.has_data-shows.ensures
+    ∙ ap (λ (z : Bool). c.args.differs || (has_data c.args.flit.act && (old.current && not z))) c.may_be-known.ensures in
     sent_by old.stores old.agents old.home old.current old.duty old.thrown c.after.result c.shown-self.result c.current_from-self.result c.duty_after-self.result c.thrown_after-self.result
-    c.args.flit c.from-at.result c.shows_others-differs.result c.tells_words-tells.result c.is_renewed-renewed.result c.lets_go-goes.result
-    c.from-at.ensures low c.after.ensures differs_is c.tells_words-tells.ensures c.lets_go-goes.ensures c.is_renewed-renewed.ensures c.shown-self.ensures c.current_from-self.ensures c.duty_after-self.ensures c.thrown_after-self.ensures
+    c.args.flit c.from-at.result c.shows_others-others.result c.tells_words-tells.result c.is_renewed-renewed.result c.lets_go-goes.result
+    c.from-at.ensures low c.after.ensures c.tells_words-tells.ensures c.lets_go-goes.ensures c.is_renewed-renewed.ensures c.shown-self.ensures c.current_from-self.ensures c.duty_after-self.ensures c.thrown_after-self.ensures
+    ∙ ap (next_as (observed old) c.args.flit) differs_is
 
 -- the words fit what is kept, where the agent's place is n
 abbrev fitting : Observer → CacheFlit → ℕ → Bool
