@@ -367,7 +367,7 @@ apart l words (Down g) h none = let same = apart_itself l.line words (Down g) h 
   ap (λ (s : Watched). record { line = s; words = words_granted g (worded_in l) }) same.1,
 )
 
-and_true : (a : Bool) → (a && true) ≡ a
+pub and_true : (a : Bool) → (a && true) ≡ a
 and_true true = refl
 and_true false = refl
 

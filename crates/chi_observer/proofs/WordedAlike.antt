@@ -12,10 +12,7 @@ use Rattle.chi_observer.specs.Worded.{Words, fits_words, forgets, may_read_any, 
 use Rattle.chi_observer.specs.WordedLines.{WatchedWords, takes_by_word, watch_by_word, worded_in}
 use Rattle.chi_observer.specs.WordedLaws.{UnloadedFlitsAreAlike, unloaded}
 use Rattle.chi_observer.proofs.Finite.{no}
-
-and_true : (a : Bool) → (a && true) ≡ a
-and_true true = refl
-and_true false = refl
+use Rattle.chi_observer.proofs.DataInBeats.{and_true}
 
 any_fit : (c h r a : Bool) → (c || ((not h || (r || true)) && (a || true))) ≡ true
 any_fit true h r a = refl
