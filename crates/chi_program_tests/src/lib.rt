@@ -8,6 +8,8 @@ mod command_lines;
 #[cfg(test)]
 mod comparison;
 #[cfg(test)]
+mod devices;
+#[cfg(test)]
 mod replays;
 #[cfg(test)]
 mod scarce;

@@ -53,6 +53,3 @@ pub use storms::{StormFile, read_storm};
 pub use system::{FileInput, StandardOutput};
 pub use verbs::Verb;
 pub use words::{first_word, is, read_words};
-
-#[cfg(test)]
-mod tests;

@@ -20,6 +20,15 @@ pub struct FileInput<F> {
 }
 
 impl<F: Read> FileInput<F> {
+    /// An input from this reader.
+    /// Source: `docs/FORMATS.md`, "The program".
+    pub fn new(file: F) -> FileInput<F>
+        ensures file { result.file ≡ file }
+        ensures failures { result.failures ≡ 0 }
+    {
+        FileInput { file, failures: 0 }
+    }
+
     /// The file at this path, opened for reading.
     ///
     /// `NoMemory` where memory runs out, and `Read` where the file can't be opened for another cause.
@@ -29,7 +38,7 @@ impl<F: Read> FileInput<F> {
         ensures err { IfErr result IsUnopened }
     {
         match fs::open(rt, path) {
-            Ok(file) => Ok(FileInput { file, failures: 0 }),
+            Ok(file) => Ok(FileInput::new(file)),
             Err(error) => Err(open_fault(error.kind())),
         }
     }
@@ -145,74 +154,4 @@ fn write_whole<W: Write>(stream: &mut W, bytes: &[u8]) -> Result<(), Failed>
         return Err(Failed);
     }
     Ok(())
-}
-
-#[cfg(test)]
-mod tests {
-    use super::*;
-    use std::io;
-
-    /// Its first read is interrupted, the second gives a byte, and each later one fails.
-    #[derive(Drop)]
-    struct Interrupted {
-        reads: u64,
-    }
-
-    impl Read for Interrupted {
-        fn read(&mut self, buffer: &mut [u8]) -> io::Result<usize> {
-            self.reads = self.reads.saturating_add(1);
-            if self.reads == 1 {
-                return Err(ErrorKind::Interrupted.into());
-            }
-            if self.reads > 2 || buffer.is_empty() {
-                return Err(ErrorKind::Other.into());
-            }
-            buffer[0] = b'a';
-            Ok(1)
-        }
-    }
-
-    #[test]
-    fn an_interrupted_read_is_tried_again(rt: HostRuntime) {
-        let file = Interrupted { reads: 0 };
-        let mut input = FileInput { file, failures: 0 };
-        let mut buffer = [0; 4];
-        assert_eq!(rt; input.read(&mut buffer), Ok(1));
-        assert_eq!(rt; buffer, [b'a', 0, 0, 0]);
-        assert_eq!(rt; input.failures(), 0);
-        assert_eq!(rt; input.read(&mut buffer), Err(Failed));
-        assert_eq!(rt; input.failures(), 1);
-    }
-
-    /// It takes each byte, and can't hand them on.
-    #[derive(Drop)]
-    struct Unflushed {
-        writes: u64,
-    }
-
-    impl Write for Unflushed {
-        fn write(&mut self, bytes: &[u8]) -> io::Result<usize> {
-            self.writes = self.writes.saturating_add(1);
-            Ok(bytes.len())
-        }
-
-        fn flush(&mut self) -> io::Result<()> {
-            Err(ErrorKind::Other.into())
-        }
-    }
-
-    #[test]
-    fn what_is_written_is_flushed(rt: HostRuntime) {
-        let mut output = StandardOutput::new(Unflushed { writes: 0 });
-        assert_eq!(rt; output.write_all(b"ok\n"), Err(Failed));
-        assert_eq!(rt; output.failures(), 1);
-        assert_eq!(rt; output.stream.writes, 1);
-    }
-
-    #[test]
-    fn only_want_of_memory_is_told_so(rt: HostRuntime) {
-        assert_eq!(rt; open_fault(ErrorKind::OutOfMemory), Fault::NoMemory);
-        assert_eq!(rt; open_fault(ErrorKind::NotFound), Fault::Read);
-        assert_eq!(rt; open_fault(ErrorKind::Other), Fault::Read);
-    }
 }

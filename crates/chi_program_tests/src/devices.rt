@@ -1,8 +1,30 @@
-use super::*;
-use crate::faults::Fault;
-use crate::files::MOST_BYTES;
+//! What devices give and take: inputs that are read whole, and outputs with too little room.
+
+use chi_script::{
+    Failed, Fault, FileInput, Input, MOST_BYTES, MemoryInput, MemoryOutput, Output, read_all,
+};
 use std::alloc::AllocError;
-use std::{fs, io};
+use std::io::{self, ErrorKind, Read};
+
+/// Its first read is interrupted, the second gives a byte, and each later one fails.
+#[derive(Drop)]
+struct Interrupted {
+    reads: u64,
+}
+
+impl Read for Interrupted {
+    fn read(&mut self, buffer: &mut [u8]) -> io::Result<usize> {
+        self.reads = self.reads.saturating_add(1);
+        if self.reads == 1 {
+            return Err(ErrorKind::Interrupted.into());
+        }
+        if self.reads > 2 || buffer.is_empty() {
+            return Err(ErrorKind::Other.into());
+        }
+        buffer[0] = b'a';
+        Ok(1)
+    }
+}
 
 #[test]
 fn all_of_an_input_is_read(rt: HostRuntime) -> Result<(), AllocError> {
@@ -71,22 +93,12 @@ fn a_device_shows_how_often_it_failed(rt: HostRuntime) {
 }
 
 #[test]
-fn a_file_is_read_and_a_missing_one_is_not(rt: HostRuntime) -> io::Result<()> {
-    fs::write(&rt, "good.chi", "node 1 1 1 1 1 4\n")?;
-    match FileInput::open(&rt, "good.chi") {
-        Ok(mut input) => {
-            let bytes = read_all(rt.alloc(), &mut input).unwrap_or(Vec::new(rt.alloc()));
-            assert!(rt; bytes.as_slice() == b"node 1 1 1 1 1 4\n".as_slice());
-        }
-        Err(fault) => assert!(rt; false, "{fault}"),
-    }
-    fs::remove_file(&rt, "good.chi")?;
-    assert_eq!(rt; FileInput::open(&rt, "none.chi").err(), Some(Fault::Read));
-    Ok(())
-}
-
-#[test]
-fn standard_output_takes_bytes(rt: HostRuntime) {
-    let mut output = StandardOutput::new(io::writer(&rt));
-    assert_eq!(rt; output.write_all(b"ok\n"), Ok(()));
+fn an_interrupted_read_is_tried_again(rt: HostRuntime) {
+    let mut input = FileInput::new(Interrupted { reads: 0 });
+    let mut buffer = [0; 4];
+    assert_eq!(rt; input.read(&mut buffer), Ok(1));
+    assert_eq!(rt; buffer, [b'a', 0, 0, 0]);
+    assert_eq!(rt; input.failures(), 0);
+    assert_eq!(rt; input.read(&mut buffer), Err(Failed));
+    assert_eq!(rt; input.failures(), 1);
 }
