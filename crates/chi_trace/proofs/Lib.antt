@@ -1,6 +1,7 @@
 pub mod FaultLemmas
 pub mod FlitLoop
 pub mod WordLemmas
+pub mod ColumnLemmas
 pub mod PartLemmas
 pub mod HexLemmas
 pub mod FieldLemmas

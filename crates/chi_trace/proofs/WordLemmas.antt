@@ -2,13 +2,14 @@
 use Rattle.std.proofs.Common.{◌≡◌, ℕ, suc, ◌+◌, ◌-◌, ◌<◌, ◌≤◌, Bool, true, false, not, cond, nat_lt, List, [], ◌∷◌, length, take, drop, Some, None, filter, refl, ap, sym, subst, ◌∙◌, get_or, Option, arith}
 use Rattle.std.specs.List.{position, position_or_len, prefix_len}
 use Rattle.std.proofs.lemmas.Bool.Decides.{nat_tests}
-use Rattle.std.proofs.lemmas.List.{take_rest}
+use Rattle.std.specs.Option.{unwrap_or}
+use Rattle.std.proofs.lemmas.List.{drop_all, take_rest}
 use Rattle.std.proofs.lemmas.List.Splits.{slice_split-cons_yes}
 use Rattle.std.proofs.lemmas.List.Sums.{position_or_len_is}
 use Rattle.memchr.specs.Find.{IsFirstByte, is_byte3}
 use Rattle.chi_script.proofs.LineLemmas.{cut_at, uncut}
 use Rattle.chi_trace.specs.Columns.{first_word_of}
-use Rattle.chi_trace.specs.Words.{has_bytes, is_blank, blank_words}
+use Rattle.chi_trace.specs.Words.{begins_in_word, blank_words, has_bytes, is_blank, word_or_empty, words_behind}
 
 -- what was found, or not, of a test on two numbers
 found : (n m i : ℕ) → Some i ≡ cond (nat_lt n m) (Some n) None → (n < m) × (i ≡ n)
@@ -100,20 +101,46 @@ line_text line i e =
     let at = found (position_or_len (λ b. not (is_blank b)) line) (length line) i e in
     rw (take_rest line i, at.1) (text_of line at.0)
 
-pub no_word : (line : List ℕ) → None ≡ position (λ b. not (is_blank b)) line → None ≡ first_word_of (blank_words line)
-no_word line e = sym (ap first_word_of (all_blank line (not_found (position_or_len (λ b. not (is_blank b)) line) (length line) e)))
+-- nothing stands behind the end
+end_of : (line : List ℕ) → from line (length line) ≡ []
+end_of line = take_rest line (length line) ∙ drop_all (length line) line (omega arith)
 
-pub first_of_more : (line : List ℕ) (i j : ℕ) → Some i ≡ position (λ b. not (is_blank b)) line → Some j ≡ position is_blank (from line i)
-    → Some (take j (from line i), blank_words (behind (from line i) j)) ≡ first_word_of (blank_words line)
-first_of_more line i j e f =
-    let text = line_text line i e in
-    sym (ap first_word_of (sym text.same) ∙ first_cut (from line i) j text.first f)
+no_words : (line : List ℕ) → None ≡ position (λ b. not (is_blank b)) line → blank_words [] ≡ blank_words line
+unfolding blank_words
+no_words line e = sym (all_blank line (not_found (position_or_len (λ b. not (is_blank b)) line) (length line) e))
 
-pub first_of_one : (line : List ℕ) (i : ℕ) → Some i ≡ position (λ b. not (is_blank b)) line → None ≡ position is_blank (from line i)
-    → Some (from line i, blank_words []) ≡ first_word_of (blank_words line)
-first_of_one line i e f =
+begun : (text : List ℕ) → begins text ≡ true → begins_in_word text ≡ true
+begun [] first = refl
+begun (b ∷ bs) first = first
+
+pub from_first : (line : List ℕ) (start : Option ℕ) → start ≡ position (λ b. not (is_blank b)) line
+    → (blank_words (from line (unwrap_or start (length line))) ≡ blank_words line) × (begins_in_word (from line (unwrap_or start (length line))) ≡ true)
+from_first line (Some i) e =
     let text = line_text line i e in
-    sym (ap first_word_of (sym text.same) ∙ first_whole (from line i) text.first f)
+    (text.same, begun (from line i) text.first)
+from_first line None e = rw (end_of line) (no_words line e, refl)
+
+-- the first of some words and those behind it
+abbrev word_in : Option (List ℕ × List (List ℕ)) → List ℕ
+word_in None = []
+word_in (Some found) = found.0
+
+abbrev rest_in : Option (List ℕ × List (List ℕ)) → List (List ℕ)
+rest_in None = []
+rest_in (Some found) = found.1
+
+parted : (words : List (List ℕ)) (word : List ℕ) (rest : List (List ℕ)) → first_word_of words ≡ Some (word, rest) → (word ≡ word_or_empty words) × (rest ≡ words_behind words)
+parted [] word rest e = absurd (cc (e))
+parted (w ∷ ws) word rest e = (sym (ap word_in e), sym (ap rest_in e))
+
+pub whole_text : (text : List ℕ) → begins_in_word text ≡ true → None ≡ position is_blank text → (text ≡ word_or_empty (blank_words text)) × (blank_words [] ≡ words_behind (blank_words text))
+unfolding blank_words
+whole_text [] first e = (refl, refl)
+whole_text (b ∷ bs) first e = parted (blank_words (b ∷ bs)) (b ∷ bs) (blank_words []) (first_whole (b ∷ bs) first e)
+
+pub cut_text : (text : List ℕ) (i : ℕ) → begins_in_word text ≡ true → Some i ≡ position is_blank text → (take i text ≡ word_or_empty (blank_words text)) × (blank_words (behind text i) ≡ words_behind (blank_words text))
+cut_text [] i first e = absurd (let at = found (position_or_len is_blank []) 0 i e in omega (arith, at.0))
+cut_text (b ∷ bs) i first e = parted (blank_words (b ∷ bs)) (take i (b ∷ bs)) (blank_words (behind (b ∷ bs) i)) (first_cut (b ∷ bs) i first e)
 
 -- the first blank, as a search for three bytes finds it
 fails : (b : Bool) → (b ≡ true → ⊥) → b ≡ false

@@ -1,6 +1,7 @@
 -- The columns of a line: its first eleven words (docs/TRACES.md, "Traces").
-use Rattle.std.specs.Prelude.{ℕ, List, [], ◌∷◌, Option, Some, None}
+use Rattle.std.specs.Prelude.{ℕ, List, [], ◌∷◌, Option, Some, None, if◌then◌else◌}
 use Rattle.chi_script.specs.Words.{◌>>=◌}
+use Rattle.chi_trace.specs.Words.{has_bytes}
 use Rattle.chi_trace.specs.declared.columns.Columns.{Columns}
 
 -- the words by their columns
@@ -48,6 +49,10 @@ row_behind channel words = do
     pcrd = pcrd.0;
     payload = payload.0;
   })
+
+-- columns of which the last is empty are of a line with too few words
+abbrev pub row_if : Row → Option Row
+row_if row = if has_bytes row.payload then Some row else None
 
 -- what references to the words of a line point to
 abbrev pub row_of_columns : Columns → Row

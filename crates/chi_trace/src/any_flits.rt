@@ -10,7 +10,7 @@ use crate::faults::TraceFault;
 use crate::fields::{Beat, DbId, NodeId, Resp};
 use crate::flits::{Flit, RequestFields, SnoopFields, Transaction, is_comment};
 use crate::opcodes::Opcode;
-use crate::words::first_word;
+use crate::words::next_word;
 
 /// A flit of any home or any cache that a monitor saw, or a load or a store of a processor: a line of a trace.
 /// Source: `docs/TRACES.md`, "Other opcodes".
@@ -94,13 +94,17 @@ impl AnyFlit {
 pub fn any_flit_in(line: &[u8], number: usize) -> Result<Option<AnySeen>, TraceFault>
     ensures { result ≡ any_flit_at number (blank_words line.now) }
 {
-    let Some((first, rest)) = first_word(line) else {
-        return Ok(None);
-    };
-    if is_comment(first) {
+    let first = next_word(line);
+    if first.text.is_empty() {
         return Ok(None);
     }
-    let columns = columns_behind(first, rest).ok_or(TraceFault::FewWords(number))?;
+    if is_comment(first.text) {
+        return Ok(None);
+    }
+    let columns = columns_behind(first.text, first.rest);
+    if !columns.are_all() {
+        return Err(TraceFault::FewWords(number));
+    }
     match columns.any_seen(number) {
         Ok(seen) => Ok(Some(seen)),
         Err(column) => Err(TraceFault::BadWord {

@@ -8,7 +8,7 @@ use crate::columns::columns_behind;
 use crate::faults::TraceFault;
 use crate::fields::{Address, Beat, DbId, NodeId, PcrdType, Resp, TxnId};
 use crate::opcodes::Opcode;
-use crate::words::first_word;
+use crate::words::next_word;
 use chi_flit::{Kind, Snoop};
 
 /// A flit that a monitor saw, or a load or a store of a processor: a line of a trace.
@@ -179,13 +179,17 @@ pub(crate) fn is_comment(first: &[u8]) -> bool
 pub fn flit_in(line: &[u8], number: usize) -> Result<Option<Seen>, TraceFault>
     ensures { result ≡ flit_at number (blank_words line.now) }
 {
-    let Some((first, rest)) = first_word(line) else {
-        return Ok(None);
-    };
-    if is_comment(first) {
+    let first = next_word(line);
+    if first.text.is_empty() {
         return Ok(None);
     }
-    let columns = columns_behind(first, rest).ok_or(TraceFault::FewWords(number))?;
+    if is_comment(first.text) {
+        return Ok(None);
+    }
+    let columns = columns_behind(first.text, first.rest);
+    if !columns.are_all() {
+        return Err(TraceFault::FewWords(number));
+    }
     match columns.seen(number) {
         Ok(seen) => Ok(Some(seen)),
         Err(column) => Err(TraceFault::BadWord {

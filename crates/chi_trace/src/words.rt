@@ -1,10 +1,8 @@
 //! The words of a line, between which any number of blanks may stand.
 
-ghost use Rattle.std.specs.Prelude.{◌≡◌, not};
+ghost use Rattle.std.specs.Prelude.{◌≡◌, not, true};
 ghost use Rattle.std.specs.List.{position};
-ghost use Rattle.std.specs.Option.{option_map};
-ghost use Rattle.chi_trace.specs.Columns.{first_word_of};
-ghost use Rattle.chi_trace.specs.Words.{is_blank, blank_words};
+ghost use Rattle.chi_trace.specs.Words.{begins_in_word, blank_words, is_blank, word_or_empty, words_behind};
 
 use memchr::memchr3;
 
@@ -17,30 +15,59 @@ fn is_blank(byte: u8) -> bool
     byte == b' ' || byte == b'\t' || byte == b'\r'
 }
 
-/// The first word of a line, and what stands behind the blank after it. `None` where the line has no word.
+/// A word of a line, and what stands behind the blank after it; both are empty where the line has no word.
 /// Source: `docs/TRACES.md`, "Traces".
-pub(crate) fn first_word(line: &[u8]) -> Option<(&[u8], &[u8])>
-    ensures { option_map (λ found. (found.0.now, blank_words found.1.now)) result
-        ≡ first_word_of (blank_words line.now) }
-{
-    let start = word_start(line)?;
-    let text = &line[start..];
-    match word_end(text) {
-        Some(end) => Some((&text[..end], &text[end + 1..])),
-        None => Some((text, &[])),
-    }
+#[derive(Clone, Copy)]
+pub(crate) struct Word<'a> {
+    pub text: &'a [u8],
+    pub rest: &'a [u8],
 }
 
-/// The same as `first_word`, sooner where the first word is long.
-pub(crate) fn first_long_word(line: &[u8]) -> Option<(&[u8], &[u8])>
-    ensures { option_map (λ found. (found.0.now, blank_words found.1.now)) result
-        ≡ first_word_of (blank_words line.now) }
+/// The first word of a line.
+/// Source: `docs/TRACES.md`, "Traces".
+#[inline(always)]
+pub(crate) fn next_word(line: &[u8]) -> Word<'_>
+    ensures text { result.text.now ≡ word_or_empty (blank_words line.now) }
+    ensures rest { blank_words result.rest.now ≡ words_behind (blank_words line.now) }
 {
-    let start = word_start(line)?;
-    let text = &line[start..];
-    match long_word_end(text) {
-        Some(end) => Some((&text[..end], &text[end + 1..])),
-        None => Some((text, &[])),
+    let text = from_word(line);
+    cut(text, word_end(text))
+}
+
+/// The same, sooner where the first word is long.
+#[inline(always)]
+pub(crate) fn next_long_word(line: &[u8]) -> Word<'_>
+    ensures text { result.text.now ≡ word_or_empty (blank_words line.now) }
+    ensures rest { blank_words result.rest.now ≡ words_behind (blank_words line.now) }
+{
+    let text = from_word(line);
+    cut(text, long_word_end(text))
+}
+
+/// The line from its first word on; nothing where it has none.
+#[inline(always)]
+fn from_word(line: &[u8]) -> &[u8]
+    ensures same { blank_words result.now ≡ blank_words line.now }
+    ensures first { begins_in_word result.now ≡ true }
+{
+    let start = word_start(line).unwrap_or(line.len());
+    &line[start..]
+}
+
+/// A text that begins in a word, cut at its first blank.
+#[inline(always)]
+fn cut(text: &[u8], end: Option<usize>) -> Word<'_>
+    requires first { begins_in_word text.now ≡ true }
+    requires end { end ≡ position is_blank text.now }
+    ensures text { result.text.now ≡ word_or_empty (blank_words text.now) }
+    ensures rest { blank_words result.rest.now ≡ words_behind (blank_words text.now) }
+{
+    match end {
+        Some(end) => Word {
+            text: &text[..end],
+            rest: &text[end + 1..],
+        },
+        None => Word { text, rest: &[] },
     }
 }
 
@@ -52,30 +79,9 @@ fn word_start(line: &[u8]) -> Option<usize>
     line.iter().position(|byte| !is_blank(*byte))
 }
 
-/// Where the first blank stands; the places behind no more than two bytes are looked at without a loop.
+/// Where the first blank stands.
 #[inline(always)]
 fn word_end(text: &[u8]) -> Option<usize>
-    ensures { result ≡ position is_blank text.now }
-{
-    match text {
-        [first, second, third, ..] => {
-            if is_blank(*first) {
-                Some(0)
-            } else if is_blank(*second) {
-                Some(1)
-            } else if is_blank(*third) {
-                Some(2)
-            } else {
-                far_word_end(text)
-            }
-        }
-        _ => far_word_end(text),
-    }
-}
-
-/// Where the first blank stands. It isn't inlined, so that its loop stays small.
-#[inline(never)]
-fn far_word_end(text: &[u8]) -> Option<usize>
     ensures { result ≡ position is_blank text.now }
 {
     text.iter().position(|byte| is_blank(*byte))
