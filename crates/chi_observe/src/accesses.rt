@@ -52,7 +52,7 @@ impl<A: Allocator + Copy> Watch<A> {
         ensures { IsAccessWatched (watched self.old) (watched self.new) event.now home result }
     {
         let agent = self.agent_at(event, home);
-        let news = LineNews::Flit(flit_by(event.tells, agent));
+        let news = LineNews::Flit(flit_by(&event.tells, agent));
         let before = Before {
             log: self.options.log,
             stores: self.options.stores,
@@ -64,7 +64,7 @@ impl<A: Allocator + Copy> Watch<A> {
             &before,
             event.line,
             home,
-            news,
+            &news,
             event.number,
         ) {
             Ok(told) => {

@@ -50,28 +50,28 @@ fn first_dbid(purpose: Purpose, dbid: Option<DbId>) -> Option<DbId>
 }
 
 /// Whether a later beat has the form of the first one, and its DBID.
-fn is_same_beat(found: &OpenId, tells: Tells, dbid: Option<DbId>) -> bool
-    ensures { result ≡ is_same_beat found.now tells dbid }
+fn is_same_beat(found: &OpenId, tells: &Tells, dbid: Option<DbId>) -> bool
+    ensures { result ≡ is_same_beat found.now tells.now dbid }
 {
-    let begun = found.begun.unwrap_or(tells);
-    begun.with_words(tells.words()) == tells && found.dbid == dbid
+    let begun = found.begun.unwrap_or(*tells);
+    begun.with_words(tells.words()) == *tells && found.dbid == dbid
 }
 
 /// The id's data lack these words yet, and tell this.
-fn kept_with(found: &OpenId, left: [bool; 8], tells: Tells, dbid: Option<DbId>) -> OpenId
-    ensures { result ≡ kept_with found.now left tells dbid }
+fn kept_with(found: &OpenId, left: [bool; 8], tells: &Tells, dbid: Option<DbId>) -> OpenId
+    ensures { result ≡ kept_with found.now left tells.now dbid }
 {
     OpenId {
         lacks: Some(left),
-        begun: Some(tells),
+        begun: Some(*tells),
         dbid,
         ..*found
     }
 }
 
 /// The id's first beat, behind which these words lack.
-fn first_beat(found: &OpenId, left: [bool; 8], tells: Tells, dbid: Option<DbId>) -> Change
-    ensures { result ≡ first_beat found.now left tells dbid }
+fn first_beat(found: &OpenId, left: [bool; 8], tells: &Tells, dbid: Option<DbId>) -> Change
+    ensures { result ≡ first_beat found.now left tells.now dbid }
 {
     let change = plain_change(found.line);
     if lacks_some(&left) {
@@ -113,8 +113,8 @@ fn held_by(change: Change, held: Option<bool>) -> Change
 }
 
 /// A later beat of the id, behind which these words lack and the data tell this.
-fn later_beat(found: &OpenId, left: [bool; 8], tells: Tells) -> Change
-    ensures { result ≡ later_beat found.now left tells }
+fn later_beat(found: &OpenId, left: [bool; 8], tells: &Tells) -> Change
+    ensures { result ≡ later_beat found.now left tells.now }
 {
     let change = plain_change(found.line);
     if lacks_some(&left) {
@@ -126,7 +126,7 @@ fn later_beat(found: &OpenId, left: [bool; 8], tells: Tells) -> Change
     } else {
         Change {
             frees: Some(found.key),
-            part: Part::Last(tells),
+            part: Part::Last(*tells),
             ..change
         }
     }
@@ -140,9 +140,9 @@ impl<A: Allocator> Tables<'_, A> {
         there: &[bool; 8],
         dbid: Option<DbId>,
         at: Option<CacheLine>,
-        tells: Tells,
+        tells: &Tells,
     ) -> Result<Change, IdReason>
-        ensures { result ≡ beat_of (table_of self.now) key there.now dbid at tells }
+        ensures { result ≡ beat_of (table_of self.now) key there.now dbid at tells.now }
     {
         let found = self.named(key, at)?;
         if found.purpose.is_unknown() {
@@ -158,9 +158,9 @@ impl<A: Allocator> Tables<'_, A> {
                 if is_again(&lacks, there) {
                     return Err(IdReason::WordAgain(key));
                 }
-                let begun = found.begun.unwrap_or(tells);
-                let told = told_with(begun, tells, there);
-                let change = later_beat(&found, left_of(&lacks, there), told);
+                let begun = found.begun.unwrap_or(*tells);
+                let told = told_with(begun, *tells, there);
+                let change = later_beat(&found, left_of(&lacks, there), &told);
                 Ok(held_by(change, is_held(&found, begun, told)))
             }
         }

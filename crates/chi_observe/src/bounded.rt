@@ -325,12 +325,14 @@ impl<A: Allocator + Copy> BoundedWatch<A> {
             ≡ line_in (bounded self.old).told (Event.Line event.now)) }
     {
         let mut changed = self.watch.changed(event);
-        self.watch.make_ready(event, &mut changed);
-        match &changed {
-            Ok(change) => match self.take_allowed(event, change) {
-                Ok(()) => Ok(Some(change.line)),
-                Err(stop) => Err(stop),
-            },
+        match &mut changed {
+            Ok(change) => {
+                self.watch.make_ready(event, change);
+                match self.take_allowed(event, change) {
+                    Ok(()) => Ok(Some(change.line)),
+                    Err(stop) => Err(stop),
+                }
+            }
             Err(reason) => match self.watch.take_unopened(event, *reason) {
                 Ok(()) => Ok(None),
                 Err(WatchStop::Fault(fault)) => Err(BoundedStop::Fault(fault)),

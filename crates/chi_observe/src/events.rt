@@ -66,16 +66,20 @@ pub enum Event {
 }
 
 /// The flit of a line's observer, between the home and this agent; none where it isn't judged.
-pub(crate) fn flit_by(tells: Tells, agent: Option<Agent>) -> Option<Flit>
-    ensures { result ≡ flit_by tells agent }
+pub(crate) fn flit_by(tells: &Tells, agent: Option<Agent>) -> Option<Flit>
+    ensures { result ≡ flit_by tells.now agent }
 {
     let agent = agent?;
     match tells {
-        Tells::Sent(act, shown) => judged(Flit::Up(CacheFlit { agent, act, shown })),
+        Tells::Sent(act, shown) => judged(Flit::Up(CacheFlit {
+            agent,
+            act: *act,
+            shown: *shown,
+        })),
         Tells::Given(grant, shown) => judged(Flit::Down(HomeFlit {
             agent,
-            grant,
-            shown,
+            grant: *grant,
+            shown: *shown,
         })),
         Tells::Unjudged => None,
         Tells::NoForm(_) => None,
@@ -109,14 +113,14 @@ impl Tells {
 }
 
 /// What a line is told of by a flit of this agent: of its data in this part.
-pub(crate) fn news_of(tells: Tells, part: Part, agent: Option<Agent>) -> LineNews
-    ensures { result ≡ news_of tells part agent }
+pub(crate) fn news_of(tells: &Tells, part: &Part, agent: Option<Agent>) -> LineNews
+    ensures { result ≡ news_of tells.now part.now agent }
 {
     match part {
         Part::Last(told) => ended_by(flit_by(told, agent)),
         Part::Known(told) => early_by(flit_by(told, agent)),
-        Part::Held(same) => LineNews::Held(same),
-        Part::First(lacks) => begun_by(flit_by(tells, agent), lacks),
+        Part::Held(same) => LineNews::Held(*same),
+        Part::First(lacks) => begun_by(flit_by(tells, agent), *lacks),
         Part::Whole | Part::Further => LineNews::Flit(flit_by(tells, agent)),
     }
 }
@@ -128,7 +132,7 @@ fn begun_by(flit: Option<Flit>, lacks: [bool; 8]) -> LineNews
 {
     match flit {
         Some(flit) => {
-            if shows_some(flit) {
+            if shows_some(&flit) {
                 LineNews::Begun(flit, lacks)
             } else {
                 LineNews::Flit(Some(flit))
@@ -154,7 +158,7 @@ fn ended_by(flit: Option<Flit>) -> LineNews
 {
     match flit {
         Some(flit) => {
-            if shows_some(flit) {
+            if shows_some(&flit) {
                 LineNews::Ended(Some(flit))
             } else {
                 LineNews::Nothing

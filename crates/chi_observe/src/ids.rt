@@ -1,6 +1,6 @@
 //! The ids that are open.
 
-ghost use Rattle.std.specs.Prelude.{◌≡◌};
+ghost use Rattle.std.specs.Prelude.{◌≡◌, option_map};
 ghost use Rattle.chi_observe.specs.Ids.{id_of, is_followed, is_kept_for, is_unknown, opened_at, opened_id};
 
 use crate::events::Tells;
@@ -103,13 +103,10 @@ pub struct OpenId {
 pub(crate) type IdTable<A> = IndexMap<KeyNumbers, OpenId, BuildHasherDefault<FoldHasher>, A>;
 
 /// The open id that has this key.
-pub(crate) fn find_id<A: Allocator>(ids: &IdTable<A>, key: IdKey) -> Option<OpenId>
-    ensures { result ≡ id_of key ids.now.entries }
+pub(crate) fn find_id<A: Allocator>(ids: &IdTable<A>, key: IdKey) -> Option<&OpenId>
+    ensures { option_map (λ id. id.now) result ≡ id_of key ids.now.entries }
 {
-    match ids.get(&numbers_of(key)) {
-        Some(id) => Some(*id),
-        None => None,
-    }
+    ids.get(&numbers_of(key))
 }
 
 /// An id that is opened.
@@ -131,12 +128,12 @@ pub(crate) fn opened_id(key: IdKey, line: CacheLine, purpose: Purpose) -> OpenId
 
 impl OpenId {
     /// The same of a flit with this number.
-    pub(crate) fn opened_at(self, number: usize) -> OpenId
-        ensures { result ≡ opened_at number self }
+    pub(crate) fn opened_at(&self, number: usize) -> OpenId
+        ensures { result ≡ opened_at number self.now }
     {
         OpenId {
             since: number,
-            ..self
+            ..*self
         }
     }
 }

@@ -83,7 +83,7 @@ fn is_left_over<A: Allocator>(
 ) -> bool
     ensures { result ≡ is_left_over options named.now.entries step.now key }
 {
-    options.is_cut() && (!is_of_line(key) && may_come(step, &find_id(named, key)))
+    options.is_cut() && (!is_of_line(key) && may_come(step, &find_id(named, key).copied()))
 }
 
 /// The words that lack of the data of an id from before.
@@ -157,10 +157,10 @@ fn name_id<A: Allocator>(
 ) -> Result<(), AllocError>
     ensures { OnOk result (named.new.entries ≡ named_behind event.now key named.old.entries) }
 {
-    let lacked = lacked_of(&find_id(named, key));
+    let lacked = lacked_of(&find_id(named, key).copied());
     let lacks = lacks_behind(&words_there(&event.step), &lacked);
     free_id(named, opened_in(event.sides, &event.step));
-    keep_id(named, Some(named_id(key, lacks)))
+    keep_id(named, &Some(named_id(key, lacks)))
 }
 
 /// What is kept of the id that a flit frees: it was named.
@@ -186,7 +186,7 @@ pub(crate) fn close_id<A: Allocator>(
     ensures { OnOk result (named.new.entries ≡ named_after options frees named.old.entries) }
 {
     if options.is_cut() {
-        keep_id(named, closed_id(frees))
+        keep_id(named, &closed_id(frees))
     } else {
         Ok(())
     }

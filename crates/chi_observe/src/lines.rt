@@ -124,10 +124,11 @@ impl<A: Allocator> LineSeen<A> {
     }
 
     /// A flit that was taken is marked by its number, but a request that isn't told yet.
-    fn mark(&mut self, flit: Flit, number: usize) -> Result<(), AllocError>
-        ensures { OnOk result (line_state self.new ≡ marked_next (line_state self.old) number flit) }
+    fn mark(&mut self, flit: &Flit, number: usize) -> Result<(), AllocError>
+        ensures { OnOk result
+            (line_state self.new ≡ marked_next (line_state self.old) number flit.now) }
     {
-        if self.judge.holds(teller_of(flit)) {
+        if self.judge.holds(teller_of(*flit)) {
             return Ok(());
         }
         self.marks.mark(flit, &self.judge.observer().home, number)
@@ -139,11 +140,11 @@ impl<A: Allocator> LineSeen<A> {
         &mut self,
         before: &Before,
         home: NodeId,
-        flit: Option<Flit>,
+        flit: &Option<Flit>,
         number: usize,
     ) -> Result<(), LineStop>
         ensures { IsFlitTold (before_of before.now) (line_state self.old) (line_state self.new)
-            number home flit result }
+            number home flit.now result }
     {
         let Some(flit) = flit else {
             self.set_aside();
@@ -155,7 +156,7 @@ impl<A: Allocator> LineSeen<A> {
         if self.home.0 != home.0 {
             return Err(LineStop::Refused(LineReason::OtherHome(self.home)));
         }
-        match self.judge.take(flit, before, number) {
+        match self.judge.take(*flit, before, number) {
             Ok(()) => Ok(self.mark(flit, number)?),
             Err(Untaken::Fault(reason)) => Err(LineStop::Refused(LineReason::Rule(reason))),
             Err(Untaken::SetAside(why)) => {
@@ -229,7 +230,7 @@ impl<A: Allocator> LineSeen<A> {
             number home flit lacks.now lacking result }
     {
         let whole = self.presented(flit, lacks);
-        self.take_flit(before, home, Some(whole), number)?;
+        self.take_flit(before, home, &Some(whole), number)?;
         self.show(flit, lacks);
         self.marks.words = number;
         self.lacking = lacking;
@@ -264,11 +265,11 @@ impl<A: Allocator> LineSeen<A> {
         &mut self,
         before: &Before,
         home: NodeId,
-        flit: Option<Flit>,
+        flit: &Option<Flit>,
         number: usize,
     ) -> Result<(), LineStop>
         ensures { IsHeldTold (before_of before.now) (line_state self.old) (line_state self.new)
-            number home flit result }
+            number home flit.now result }
     {
         self.take_flit(before, home, flit, number)?;
         self.lacking = Lacking::Nothing;
@@ -276,8 +277,8 @@ impl<A: Allocator> LineSeen<A> {
     }
 
     /// Takes the last beat of data of which the line was told at their first.
-    fn end_early(&mut self, flit: Option<Flit>, number: usize) -> Result<(), LineStop>
-        ensures { IsLastTold (line_state self.old) (line_state self.new) number flit result }
+    fn end_early(&mut self, flit: &Option<Flit>, number: usize) -> Result<(), LineStop>
+        ensures { IsLastTold (line_state self.old) (line_state self.new) number flit.now result }
     {
         let left = self.lacking.without();
         let Some(flit) = flit else {
@@ -285,7 +286,7 @@ impl<A: Allocator> LineSeen<A> {
             self.set_aside();
             return Ok(());
         };
-        let words = shown_words(flit);
+        let words = shown_words(*flit);
         let unknown = self.lacking.unknown();
         if !self.aside && !agrees(&unknown, &self.judge.observer().home, &words) {
             return Err(LineStop::Refused(LineReason::Rule(Reason::OtherWords)));
@@ -303,11 +304,11 @@ impl<A: Allocator> LineSeen<A> {
         &mut self,
         before: &Before,
         home: NodeId,
-        flit: Option<Flit>,
+        flit: &Option<Flit>,
         number: usize,
     ) -> Result<(), LineStop>
         ensures { IsEndTold (before_of before.now) (line_state self.old) (line_state self.new)
-            number home flit result }
+            number home flit.now result }
     {
         match self.lacking {
             Lacking::Nothing => self.end_held(before, home, flit, number),
@@ -360,7 +361,7 @@ impl<A: Allocator> LineSeen<A> {
                 Lacking::Nothing => true,
                 Lacking::Data => false,
                 Lacking::Words(_, _, _) => {
-                    (!shows_some(*flit) || is_wanted_free(self.wanted(*flit)))
+                    (!shows_some(flit) || is_wanted_free(self.wanted(*flit)))
                         && !self.judge.keeps_store(*flit)
                 }
             },
@@ -393,24 +394,24 @@ impl<A: Allocator> LineSeen<A> {
         &mut self,
         before: &Before,
         home: NodeId,
-        flit: Option<Flit>,
+        flit: &Option<Flit>,
         number: usize,
     ) -> Result<(), LineStop>
         ensures { IsBetweenTold (before_of before.now) (line_state self.old) (line_state self.new)
-            number home flit result }
+            number home flit.now result }
     {
         let Some(sent) = flit else {
             self.set_aside();
             return Ok(());
         };
-        if self.is_showing(&flit) {
-            let lacks = lacks_of(sent);
+        if self.is_showing(flit) {
+            let lacks = lacks_of(*sent);
             let lacking = self.lacking.shown(&lacks);
-            return self.take_shown(before, home, sent, &lacks, lacking, number);
+            return self.take_shown(before, home, *sent, &lacks, lacking, number);
         }
-        if self.is_apart(&flit) {
-            let heard = self.heard(sent);
-            return self.take_flit(before, home, Some(heard), number);
+        if self.is_apart(flit) {
+            let heard = Some(self.heard(*sent));
+            return self.take_flit(before, home, &heard, number);
         }
         self.set_aside();
         Ok(())
@@ -428,7 +429,7 @@ impl<A: Allocator> LineSeen<A> {
             number home flit result }
     {
         let words = self.marks.words;
-        self.take_between(before, home, Some(flit), number)?;
+        self.take_between(before, home, &Some(flit), number)?;
         self.marks.words = words;
         Ok(())
     }
@@ -458,17 +459,18 @@ impl<A: Allocator> LineSeen<A> {
         &mut self,
         before: &Before,
         home: NodeId,
-        news: LineNews,
+        news: &LineNews,
         number: usize,
     ) -> Result<(), LineStop>
-        ensures { IsLineTold (before_of before.now) (line_state self.old) (line_state self.new) number home news result }
+        ensures { IsLineTold (before_of before.now) (line_state self.old) (line_state self.new)
+            number home news.now result }
     {
         match news {
             LineNews::Flit(flit) => self.take_between(before, home, flit, number),
-            LineNews::Early(flit) => self.take_early(before, home, flit, number),
-            LineNews::Begun(flit, lacks) => self.begin(before, home, flit, &lacks, number),
+            LineNews::Early(flit) => self.take_early(before, home, *flit, number),
+            LineNews::Begun(flit, lacks) => self.begin(before, home, *flit, lacks, number),
             LineNews::Ended(flit) => self.end(before, home, flit, number),
-            LineNews::Held(same) => self.hold_to(same),
+            LineNews::Held(same) => self.hold_to(*same),
             LineNews::Nothing => Ok(()),
         }
     }
@@ -478,11 +480,11 @@ impl<A: Allocator> LineSeen<A> {
         &mut self,
         before: &Before,
         home: NodeId,
-        news: LineNews,
+        news: &LineNews,
         number: usize,
     ) -> Result<bool, LineStop>
         ensures told { IsLineTold (before_of before.now) (line_state self.old) (line_state self.new)
-            number home news result }
+            number home news.now result }
         ensures aside { IfOk result
             (λ aside. aside ≡ is_put_aside (line_state self.old) (line_state self.new)) }
     {
@@ -599,10 +601,10 @@ pub(crate) fn tell<A: Allocator + Copy>(
     before: &Before,
     line: CacheLine,
     home: NodeId,
-    news: LineNews,
+    news: &LineNews,
     number: usize,
 ) -> Result<LineTold, LineStop>
-    ensures { IsTold (before_of before.now) (lines_in lines.old.entries) (lines_in lines.new.entries) number line home news result }
+    ensures { IsTold (before_of before.now) (lines_in lines.old.entries) (lines_in lines.new.entries) number line home news.now result }
 {
     match lines.get_mut(&line.0) {
         Some(seen) => match seen.tell(before, home, news, number) {
@@ -623,11 +625,11 @@ fn tell_new<A: Allocator + Copy>(
     before: &Before,
     line: CacheLine,
     home: NodeId,
-    news: LineNews,
+    news: &LineNews,
     number: usize,
 ) -> Result<LineTold, LineStop>
     requires { lookup (nat_eq line.0) lines.old.entries ≡ None }
-    ensures { IsTold (before_of before.now) (lines_in lines.old.entries) (lines_in lines.new.entries) number line home news result }
+    ensures { IsTold (before_of before.now) (lines_in lines.old.entries) (lines_in lines.new.entries) number line home news.now result }
 {
     let memory = spare.pop().unwrap_or(Vec::new(*lines.allocator()));
     let mut seen = LineSeen::new(memory, before, home, number)?;

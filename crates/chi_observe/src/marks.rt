@@ -1,6 +1,6 @@
 //! Which lines of a trace told what is known of a line of memory.
 
-ghost use Rattle.std.specs.Prelude.{◌≡◌, ◌<◌, OnOk, is_some, length};
+ghost use Rattle.std.specs.Prelude.{◌≡◌, ◌<◌, OnOk, is_some, length, option_map};
 ghost use Rattle.chi_observe.specs.Marks.{copies_in, is_known, marked, marks_after, nothing_marked, shows_known, shows_words, tells_copy, teller_of};
 ghost use Rattle.chi_observer.specs.Worlds.{put};
 
@@ -31,8 +31,8 @@ pub(crate) fn teller_of(flit: Flit) -> Agent
 }
 
 /// Whether a flit tells of its agent's copy.
-fn tells_copy(flit: Flit) -> bool
-    ensures { result ≡ tells_copy flit }
+fn tells_copy(flit: &Flit) -> bool
+    ensures { result ≡ tells_copy flit.now }
 {
     match flit {
         Flit::Up(sent) => match sent.act {
@@ -53,20 +53,20 @@ fn tells_copy(flit: Flit) -> bool
 }
 
 /// The words that a flit shows, if it shows some.
-fn shown_by(flit: Flit) -> Option<Data>
-    ensures { result ≡ shows_words flit }
+fn shown_by(flit: &Flit) -> Option<&Data>
+    ensures { option_map (λ words. words.now) result ≡ shows_words flit.now }
 {
     match flit {
         Flit::Up(sent) => match sent.act {
             Act::SnpResp(Answer::SnpRespI | Answer::SnpRespSC | Answer::SnpRespUC) => None,
-            Act::SnpResp(_) => Some(sent.shown),
+            Act::SnpResp(_) => Some(&sent.shown),
             Act::CopyBackWrData(State::I) => None,
-            Act::CopyBackWrData(_) => Some(sent.shown),
-            Act::NonCopyBackWrData => Some(sent.shown),
+            Act::CopyBackWrData(_) => Some(&sent.shown),
+            Act::NonCopyBackWrData => Some(&sent.shown),
             Act::Request(_) | Act::Resend(_) | Act::CompAck | Act::Load(_) | Act::Store(_) => None,
         },
         Flit::Down(given) => match given.grant {
-            Grant::CompData(_) => Some(given.shown),
+            Grant::CompData(_) => Some(&given.shown),
             Grant::RetryAck
             | Grant::Snp(_)
             | Grant::CompUC
@@ -78,10 +78,13 @@ fn shown_by(flit: Flit) -> Option<Data>
 }
 
 /// Whether a flit shows words.
-pub(crate) fn shows_some(flit: Flit) -> bool
-    ensures { result ≡ is_some (shows_words flit) }
+pub(crate) fn shows_some(flit: &Flit) -> bool
+    ensures { result ≡ is_some (shows_words flit.now) }
 {
-    shown_by(flit).is_some()
+    match shown_by(flit) {
+        Some(_) => true,
+        None => false,
+    }
 }
 
 /// Whether the words are known, and are these.
@@ -95,12 +98,12 @@ pub(crate) fn is_known(known: &Option<Data>, shown: &Data) -> bool
 }
 
 /// Whether a flit shows the words that are known behind it.
-fn shows_known(flit: Flit, known: &Option<Data>) -> bool
-    ensures { result ≡ shows_known flit known.now }
+fn shows_known(flit: &Flit, known: &Option<Data>) -> bool
+    ensures { result ≡ shows_known flit.now known.now }
 {
     match shown_by(flit) {
         None => false,
-        Some(shown) => is_known(known, &shown),
+        Some(shown) => is_known(known, shown),
     }
 }
 
@@ -146,18 +149,18 @@ impl<A: Allocator> Marks<A> {
     /// A flit that was taken is marked: by its number, and the words that are known behind it.
     pub(crate) fn mark(
         &mut self,
-        flit: Flit,
+        flit: &Flit,
         known: &Option<Data>,
         number: usize,
     ) -> Result<(), AllocError>
         ensures { OnOk result
-            (marked self.new ≡ marks_after number flit known.now (marked self.old)) }
+            (marked self.new ≡ marks_after number flit.now known.now (marked self.old)) }
     {
         if shows_known(flit, known) {
             self.words = number;
         }
         if tells_copy(flit) {
-            let agent = teller_of(flit);
+            let agent = teller_of(*flit);
             put_copy(&mut self.copies, usize::from(agent.0), number)?;
         }
         Ok(())

@@ -314,9 +314,9 @@ impl<A: Allocator> Tables<'_, A> {
         dbid: Option<DbId>,
         there: &[bool; 8],
         at: Option<CacheLine>,
-        tells: Tells,
+        tells: &Tells,
     ) -> Result<Change, IdReason>
-        ensures { result ≡ read_data (table_of self.now) sides txn dbid there.now at tells }
+        ensures { result ≡ read_data (table_of self.now) sides txn dbid there.now at tells.now }
     {
         let key = IdKey::Request(sides, txn);
         let found = self.named(key, at)?;
@@ -337,9 +337,9 @@ impl<A: Allocator> Tables<'_, A> {
         sides: Sides,
         step: &IdStep,
         at: Option<CacheLine>,
-        tells: Tells,
+        tells: &Tells,
     ) -> Result<Change, IdReason>
-        ensures { result ≡ change_of self.now.options (table_of self.now) sides step.now at tells }
+        ensures { result ≡ change_of self.now.options (table_of self.now) sides step.now at tells.now }
     {
         match step {
             IdStep::Attempt(txn, kind, line) => self.attempt(sides, *txn, *kind, *line),

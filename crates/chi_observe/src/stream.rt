@@ -81,9 +81,9 @@ impl<A: Allocator + Copy> Notes<A> {
     }
 
     /// Keeps a flit of the line, if it is known.
-    fn keep(&mut self, line: Option<CacheLine>, seen: AnySeen) -> Result<(), AllocError> {
+    fn keep(&mut self, line: Option<CacheLine>, seen: &AnySeen) -> Result<(), AllocError> {
         match line {
-            Some(line) => self.recent.keep(line, seen),
+            Some(line) => self.recent.keep(line, *seen),
             None => Ok(()),
         }
     }
@@ -108,12 +108,12 @@ fn take_text<A: Allocator + Copy>(
 ) -> Result<(), TextStop>
     ensures { IsTextTaken (watched watch.old) (watched watch.new) number line.now result }
 {
-    match any_flit_in(line, number) {
+    match &any_flit_in(line, number) {
         Ok(Some(seen)) => take_seen(watch, notes, seen),
         Ok(None) => Ok(()),
         Err(fault) => {
             notes.wrong.extend_from_slice(line)?;
-            Err(TextStop::Malformed(fault))
+            Err(TextStop::Malformed(*fault))
         }
     }
 }
@@ -122,15 +122,15 @@ fn take_text<A: Allocator + Copy>(
 fn take_seen<A: Allocator + Copy>(
     watch: &mut Watch<A>,
     notes: &mut Notes<A>,
-    seen: AnySeen,
+    seen: &AnySeen,
 ) -> Result<(), TextStop>
-    ensures { IsSeenTaken (watched watch.old) (watched watch.new) seen result }
+    ensures { IsSeenTaken (watched watch.old) (watched watch.new) seen.now result }
 {
-    let event = event_of(&seen);
+    let event = event_of(seen);
     let line = notes.line_of(watch, &event);
     match watch.take(&event) {
         Ok(()) => Ok(notes.keep(line, seen)?),
-        Err(WatchStop::Fault(fault)) => Err(TextStop::Untaken(seen, fault)),
+        Err(WatchStop::Fault(fault)) => Err(TextStop::Untaken(*seen, fault)),
         Err(WatchStop::NoMemory) => Err(TextStop::NoMemory),
     }
 }

@@ -68,15 +68,15 @@ pub(crate) fn plain_change(line: CacheLine) -> Change
 }
 
 /// The id, which is of the line that is named, if one is.
-pub(crate) fn in_line(found: OpenId, at: Option<CacheLine>) -> Result<OpenId, IdReason>
-    ensures { result ≡ in_line at found }
+pub(crate) fn in_line(found: &OpenId, at: Option<CacheLine>) -> Result<OpenId, IdReason>
+    ensures { result ≡ in_line at found.now }
 {
     match at {
         Some(named) if named.0 != found.line.0 => Err(IdReason::WrongAddress {
             named,
             line: found.line,
         }),
-        Some(_) | None => Ok(found),
+        Some(_) | None => Ok(*found),
     }
 }
 

@@ -598,11 +598,11 @@ impl<A: Allocator> Watch<A> {
         match event {
             Event::Line(event) => {
                 let agent = agent_of(&self.requesters, &self.homes, event.sides);
-                let flit = flit_by(self.told_by(event), agent)?;
+                let flit = flit_by(&self.told_by(event), agent)?;
                 Some((event.sides.requester, flit))
             }
             Event::Access(event) => {
-                let flit = flit_by(event.tells, self.agent_of_access(event))?;
+                let flit = flit_by(&event.tells, self.agent_of_access(event))?;
                 Some((event.requester, flit))
             }
             Event::Granted(_, _) | Event::Returned(_, _) => None,

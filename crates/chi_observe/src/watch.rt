@@ -8,7 +8,7 @@ ghost use Rattle.chi_observe.specs.Lines.{lines_in};
 ghost use Rattle.chi_observe.specs.Grants.{granted, returned};
 ghost use Rattle.chi_observe.specs.Steps.{ids_after};
 ghost use Rattle.chi_observe.specs.Tables.{table_of};
-ghost use Rattle.chi_observe.specs.Watched.{IsCreditWatched, IsFlitWatched, IsWatched, agent_in, all_ready, allowed, changed, booking_after, counts_access, counts_after, counts_aside, counts_first, early_in, mark_if, nothing_watched, settled, table_in, watched, with_early};
+ghost use Rattle.chi_observe.specs.Watched.{IsCreditWatched, IsFlitWatched, IsWatched, agent_in, allowed, changed, booking_after, counts_access, counts_after, counts_aside, counts_first, early_in, mark_if, nothing_watched, ready, settled, table_in, watched, with_early};
 
 use crate::credits::{AccountTable, Booking, account_numbers};
 use crate::events::{Event, LineEvent, Tells, flit_by, news_of};
@@ -223,24 +223,29 @@ pub(crate) fn free_id<A: Allocator>(ids: &mut IdTable<A>, frees: Option<IdKey>)
 /// An id is kept open, if one is.
 pub(crate) fn keep_id<A: Allocator>(
     ids: &mut IdTable<A>,
-    opens: Option<OpenId>,
+    keeps: &Option<OpenId>,
 ) -> Result<(), AllocError>
-    ensures { OnOk result (ids.new.entries ≡ with_id opens ids.old.entries) }
+    ensures { OnOk result (ids.new.entries ≡ with_id keeps.now ids.old.entries) }
 {
-    if let Some(id) = opens {
-        let _ = ids.insert(numbers_of(id.key), id)?;
+    if let Some(id) = keeps {
+        let _ = ids.insert(numbers_of(id.key), *id)?;
     }
     Ok(())
 }
 
-/// The id that a flit with this number opens, if it opens one.
-fn opened(opens: Option<OpenId>, number: usize) -> Option<OpenId>
-    ensures { result ≡ option_map (opened_at number) opens }
+/// The id that a flit with this number opens is open, if it opens one.
+fn open_id<A: Allocator>(
+    ids: &mut IdTable<A>,
+    opens: &Option<OpenId>,
+    number: usize,
+) -> Result<(), AllocError>
+    ensures { OnOk result
+        (ids.new.entries ≡ with_id (option_map (opened_at number) opens.now) ids.old.entries) }
 {
-    match opens {
-        Some(id) => Some(id.opened_at(number)),
-        None => None,
+    if let Some(id) = opens {
+        let _ = ids.insert(numbers_of(id.key), id.opened_at(number))?;
     }
+    Ok(())
 }
 
 /// The ids behind a flit with this number.
@@ -252,8 +257,8 @@ fn change_ids<A: Allocator>(
     ensures { OnOk result (ids.new.entries ≡ ids_after number change.now ids.old.entries) }
 {
     free_id(ids, change.frees);
-    keep_id(ids, change.keeps)?;
-    keep_id(ids, opened(change.opens, number))
+    keep_id(ids, &change.keeps)?;
+    open_id(ids, &change.opens, number)
 }
 
 impl<A: Allocator + Copy> Watch<A> {
@@ -295,13 +300,11 @@ impl<A: Allocator> Watch<A> {
     pub(crate) fn changed(&self, event: &LineEvent) -> Result<Change, IdReason>
         ensures { result ≡ changed (watched self.now) event.now }
     {
-        match event.tells {
-            Tells::NoForm(resp) => Err(IdReason::Form(resp)),
-            Tells::Sent(_, _) | Tells::Given(_, _) | Tells::Unjudged => {
-                self.tables()
-                    .change(event.sides, &event.step, event.at, event.tells)
-            }
+        if let Tells::NoForm(resp) = event.tells {
+            return Err(IdReason::Form(resp));
         }
+        self.tables()
+            .change(event.sides, &event.step, event.at, &event.tells)
     }
 
     /// The same, with all words of data whose words are known at their first beat.
@@ -309,7 +312,9 @@ impl<A: Allocator> Watch<A> {
         ensures { result ≡ allowed (watched self.now) event.now }
     {
         let mut allowed = self.changed(event);
-        self.make_ready(event, &mut allowed);
+        if let Ok(change) = &mut allowed {
+            self.make_ready(event, change);
+        }
         allowed
     }
 
@@ -334,7 +339,7 @@ impl<A: Allocator> Watch<A> {
     ) -> Option<(Later, Data)>
         ensures { result ≡ early_in (watched self.now) event.now line lacks.now }
     {
-        let flit = flit_by(event.tells, self.agent_in(event))?;
+        let flit = flit_by(&event.tells, self.agent_in(event))?;
         match self.lines.get(&line.0) {
             Some(seen) => seen.early(flit, lacks),
             None => None,
@@ -342,12 +347,9 @@ impl<A: Allocator> Watch<A> {
     }
 
     /// Data whose words are known at their first beat have all words.
-    pub(crate) fn make_ready(&self, event: &LineEvent, changed: &mut Result<Change, IdReason>)
-        ensures { changed.new ≡ all_ready (watched self.now) event.now changed.old }
+    pub(crate) fn make_ready(&self, event: &LineEvent, change: &mut Change)
+        ensures { change.new ≡ ready (watched self.now) event.now change.old }
     {
-        let Ok(change) = changed else {
-            return;
-        };
         if let Part::First(lacks) = &change.part {
             if let Some(early) = self.early_in(event, change.line, lacks) {
                 let words = early.1;
@@ -429,7 +431,7 @@ impl<A: Allocator + Copy> Watch<A> {
             return Ok(change_ids(&mut self.ids, change, event.number)?);
         }
         let agent = self.agent_in(event);
-        let news = news_of(event.tells, change.part, agent);
+        let news = news_of(&event.tells, &change.part, agent);
         let home = event.sides.home;
         let before = Before {
             log: self.options.log,
@@ -442,7 +444,7 @@ impl<A: Allocator + Copy> Watch<A> {
             &before,
             change.line,
             home,
-            news,
+            &news,
             event.number,
         ) {
             Ok(told) => {
@@ -459,9 +461,11 @@ impl<A: Allocator + Copy> Watch<A> {
         ensures { IsWatched (watched self.old) (watched self.new) (Event.Line event.now) result }
     {
         let mut changed = self.changed(event);
-        self.make_ready(event, &mut changed);
-        match &changed {
-            Ok(change) => self.take_allowed(event, change),
+        match &mut changed {
+            Ok(change) => {
+                self.make_ready(event, change);
+                self.take_allowed(event, change)
+            }
             Err(reason) => self.take_unopened(event, *reason),
         }
     }

@@ -18,7 +18,7 @@ all_have : (line : List ℕ) → list_all has_bytes (blank_words line) ≡ true
 unfolding blank_words
 all_have line = kept (slice_split is_blank line)
 
-empty : (text : List ℕ) → (length text == 0) ≡ true → text ≡ []
+pub empty : (text : List ℕ) → (length text == 0) ≡ true → text ≡ []
 empty [] e = refl
 empty (b ∷ bs) e = absurd (let no : 1 ≤ 0 = grind (arith, nat_tests) in omega (arith, no))
 
@@ -31,7 +31,7 @@ none_of ((b ∷ bs) ∷ words) all e = absurd (cc (e))
 pub none_first : (line text : List ℕ) → text ≡ word_or_empty (blank_words line) → (length text == 0) ≡ true → None ≡ first_word_of (blank_words line)
 none_first line text e is = none_of (blank_words line) (all_have line) (sym e ∙ empty text is)
 
--- so many words behind a first one
+-- two words further
 abbrev second : List (List ℕ) → List (List ℕ)
 second words = words_behind (words_behind words)
 

@@ -10,6 +10,7 @@ use Rattle.chi_trace.specs.Files.{◌>>=◌, flits_at, trace_flits, one_of, trac
 use Rattle.chi_trace.specs.Flits.{flit_at}
 use Rattle.chi_trace.specs.Spelling.{AreFlits, IsTrace}
 use Rattle.chi_trace.specs.Words.{blank_words}
+use Rattle.chi_trace.proofs.ColumnLemmas.{empty}
 use Rattle.chi_trace.proofs.LineLemmas.{comment_again, comment_read, line_again, line_read}
 
 bound : {A B : Type 0} (step : Result A TraceFault) (next : A → Result B TraceFault) (y : B) → (step >>= next) ≡ Ok y → (x : A) × (step ≡ Ok x) × (next x ≡ Ok y)
@@ -20,10 +21,6 @@ bound (Err fault) next y e = cc
 last_read : (b : Bool) (n : ℕ) (flits : List Seen) → cond b (Ok []) (Err (MissingNewline n)) ≡ Ok flits → (b ≡ true) × ([] ≡ flits)
 last_read true n flits e = let same : [] ≡ flits = cc in (refl, same)
 last_read false n flits e = cc
-
-is_empty : (last : List ℕ) → (length last == 0) ≡ true → last ≡ []
-is_empty [] e = refl
-is_empty (b ∷ bs) e = absurd (let no : 1 ≤ 0 = grind (arith, nat_tests) in omega (arith, no))
 
 -- lines, each of which a line end closes, that are these flits
 record AreRead (n : ℕ) (flits : List Seen) (all : List (List ℕ)) : Type 0 where
@@ -41,7 +38,7 @@ flits_read : (n : ℕ) (line : List ℕ) (rest : List (List ℕ)) (flits : List 
 unfolding trace_flits
 flits_read n last [] flits e =
     let end = last_read (length last == 0) n flits e in
-    record { lines = []; closed = ap (λ (l : List ℕ). l ∷ []) (is_empty last end.0); text = sym end.1 }
+    record { lines = []; closed = ap (λ (l : List ℕ). l ∷ []) (empty last end.0); text = sym end.1 }
 flits_read n line (next ∷ rest) flits e =
     let one = bound (flits_at n line) (λ here. trace_flits (n + 1) (next ∷ rest) >>= λ later. Ok (here ++ later)) flits e in
     let found = bound (flit_at n (blank_words line)) (λ seen. Ok (one_of seen)) one.0 one.1 in

@@ -1,3 +1,4 @@
+pub mod DigitLemmas
 pub mod FaultLemmas
 pub mod FlitLoop
 pub mod WordLemmas

@@ -1,6 +1,6 @@
 //! Numbers as a trace writes them: in hexadecimal.
 
-ghost use Rattle.std.specs.Prelude.{◌≡◌, ◌≤◌, ◌<◌, IfSome};
+ghost use Rattle.std.specs.Prelude.{◌≡◌, ◌≤◌, ◌<◌, ◌∷◌, [], IfSome};
 ghost use Rattle.std.specs.Option.{unwrap_or};
 ghost use Rattle.chi_trace.specs.Numbers.{digit_of, digits_from, hex_of, plain_of, unmarked, with_hex_digit};
 
@@ -42,10 +42,28 @@ fn digits(word: &[u8], most: u64) -> Option<u64>
     ensures fits { IfSome result (λ number. number ≤ most) }
 {
     let mut number = 0;
-    for digit in word {
-        number = with_digit(number, *digit, most)?;
+    let mut left = word;
+    while let [first, second, rest @ ..] = left {
+        number = with_pair(number, *first, *second, most)?;
+        left = rest;
     }
-    Some(number)
+    match left {
+        [] => Some(number),
+        [last, ..] => with_digit(number, *last, most),
+    }
+}
+
+/// The number with two more digits at its end.
+fn with_pair(number: u64, first: u8, second: u8, most: u64) -> Option<u64>
+    requires { number ≤ most }
+    ensures read { result ≡ digits_from most number (first ∷ second ∷ []) }
+    ensures fits { IfSome result (λ number. number ≤ most) }
+{
+    let (high, low) = (digit_value(first)?, digit_value(second)?);
+    let more = number
+        .checked_mul(256)?
+        .checked_add(u64::from(high * 16 + low))?;
+    if more <= most { Some(more) } else { None }
 }
 
 /// The number with one more digit at its end.

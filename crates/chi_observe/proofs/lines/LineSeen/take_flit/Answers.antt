@@ -11,5 +11,5 @@ returns-in_ok-mark-in-Ok g c =
     let is_judged : old.aside ≡ false = search rules in
     let one_home : old.home.0 ≡ c.args.home.0 = search rules in
     let same : (old.home.0 == c.args.home.0) ≡ true = eq-eqb old.home.0 c.args.home.0 one_home in
-    told_is (before_of c.args.before.now) (line_state old) c.args.number c.args.home c.args.flit c.in-Some.flit (judged c.take.new.self) (line_state c.mark.new.self)
+    told_is (before_of c.args.before.now) (line_state old) c.args.number c.args.home c.args.flit.now c.in-Some.flit (judged c.take.new.self) (line_state c.mark.new.self)
     c.in-Some.is is_judged same c.in-Ok.ensures.verdict c.in_ok-mark-in-Ok.ensures
