@@ -59,7 +59,11 @@ fn is_told(ended: &Ended, agent: u8, wanted: Report) -> bool {
     told && ended.gathered.reports.get(place) == Some(&Some(wanted))
 }
 
-/// The tally of each agent has the loads and the stores of its report.
+/// The most turns that each agent is given, which are far more than it needs.
+const MOST_TURNS: u64 = 10_000_000;
+
+/// The tally of each agent has the loads and the stores of its report, and the agent left before its turns were used
+/// up.
 fn all_match<R: Abort + Wait>(rt: &R, tallies: &Tallies, watcher: &mut Watcher, ended: &Ended)
     requires cells { map reader_cell watcher.old ≡ tallies.now }
     requires agents { length tallies.now ≡ 8 }
@@ -69,6 +73,7 @@ fn all_match<R: Abort + Wait>(rt: &R, tallies: &Tallies, watcher: &mut Watcher, 
         assert!(rt; is_told(ended, agent, report), "agent {agent}");
         let tally = watcher.read(rt, tallies, Agent(agent));
         assert_eq!(rt; (tally.loads, tally.stores), (report.loads, report.stores));
+        assert!(rt; tally.turns < MOST_TURNS, "agent {agent}");
     }
 }
 
@@ -82,7 +87,7 @@ fn tallies_match_reports(rt: HostRuntime) {
         &node,
         requesters,
         &all,
-        10_000_000,
+        MOST_TURNS,
         &OpenGate,
     );
     assert!(rt; ended.gathered.complete);

@@ -38,6 +38,10 @@ slots_with_state slots s state = slice_set slots s (in_state state (slot_record_
 abbrev pub riding_of : List SlotRecord → ℕ → ℕ
 riding_of slots t = count_by (is_riding_of t) slots
 
+-- a spare credit of type t: more of the type are seen than its slots are Riding
+abbrev pub HasSpare : List SlotRecord → ℕ → ℕ → Type 0
+HasSpare slots t seen = riding_of slots t < seen
+
 -- how many slots of type t are Refused, Retried, Riding or Cancelled
 abbrev pub due_of : List SlotRecord → ℕ → ℕ
 due_of slots t = count_by (is_due_of t) slots
@@ -78,9 +82,9 @@ pub record CountsMove (R D E : (ℕ → ℕ) → (ℕ → ℕ) → Type 0) (old 
 pub record IsWithinSeen (slots : List SlotRecord) (p : PortView) : Type 0 where
   pub within : (t : ℕ) → t < 4 → riding_of slots t ≤ seen_of p t
 
--- where a seen credit of type t was left beside those for the Riding slots, these are still within them
+-- where a credit of type t was spare, the Riding slots are still within the seen credits
 abbrev pub StaysWithinSeen : ℕ → List SlotRecord → List SlotRecord → Type 0
-StaysWithinSeen t old new = (p : PortView) → riding_of old t < seen_of p t → IsWithinSeen old p → IsWithinSeen new p
+StaysWithinSeen t old new = (p : PortView) → HasSpare old t (seen_of p t) → IsWithinSeen old p → IsWithinSeen new p
 
 -- the credits due of each type are those of the slots that are Refused, Retried, Riding or Cancelled
 pub record HasDue (slots : List SlotRecord) (p : PortView) : Type 0 where

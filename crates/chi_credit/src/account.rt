@@ -4,7 +4,7 @@ ghost use Rattle.std.specs.Prelude.{◌≡◌, ◌≢◌, ℕ, ◌<◌, ◌≤�
 ghost use Rattle.chi_flit.specs.Credit.{credit_number};
 ghost use Rattle.chi_tracker.specs.Calls.{seen_of};
 ghost use Rattle.chi_credit.specs.Slot.{after_answer, after_finish, can_be_answered, idle_slot, is_admitted, is_cancelled_of, opened_slot};
-ghost use Rattle.chi_credit.specs.Account.{all_idle, due_of, lowest_cancelled, slots_with_state, riding_of, slot_record_at, state_at, type_at, CountsMove, FallsAt, GrowsAt, IsLowestIdle, IsSameSlot, StaysInStep, StaysWithinSeen};
+ghost use Rattle.chi_credit.specs.Account.{all_idle, due_of, lowest_cancelled, slots_with_state, riding_of, slot_record_at, state_at, type_at, CountsMove, FallsAt, GrowsAt, HasSpare, IsLowestIdle, IsSameSlot, StaysInStep, StaysWithinSeen};
 ghost use Rattle.chi_credit.specs.Payment.{HasSpent, IsGivenBack};
 
 use crate::slot::{IDLE_SLOT, SlotRecord, SlotState, is_cancelled, is_idle, is_riding};
@@ -98,10 +98,10 @@ impl Account {
         lowest_cancelled(&self.slots, ty).is_some()
     }
 
-    /// Whether one of `seen` credits of the type is left beside those for the Riding slots.
+    /// Whether one of `seen` credits of the type is spare: left beside those for the Riding slots.
     /// Source: `docs/PROTOCOL.md`, "Slots and accounts", can_resend.
     pub fn can_resend(&self, ty: CreditType, seen: u32) -> bool
-        ensures { IsTrue result ↔ (riding_of self.now (credit_number ty) < seen) }
+        ensures { IsTrue result ↔ HasSpare self.now (credit_number ty) seen }
     {
         self.riding(ty) < seen
     }
@@ -309,7 +309,7 @@ impl Account {
     ) -> Released
         requires cancelled { lowest_cancelled self.old (credit_number ty) < 8 }
         requires table { port.old.table ≡ tracker.now.table }
-        requires credit { riding_of self.old (credit_number ty) < seen_of port.old.port (credit_number ty) }
+        requires credit { HasSpare self.old (credit_number ty) (seen_of port.old.port (credit_number ty)) }
         ensures account { self.new
             ≡ slice_set self.old (lowest_cancelled self.old (credit_number ty)) idle_slot }
         ensures cancelled { state_at self.old (lowest_cancelled self.old (credit_number ty))

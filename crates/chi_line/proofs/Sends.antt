@@ -7,6 +7,7 @@ use Rattle.chi_flit.specs.declared.kind.Kind.TheVariants.{ReadNotSharedDirty, Re
 use Rattle.chi_flit.specs.declared.snoop.Snoop.{Snoop}
 use Rattle.chi_flit.specs.declared.snoop.Snoop.TheVariants.{SnpShared, SnpNotSharedDirty, SnpUnique, SnpCleanInvalid}
 use Rattle.chi_flit.specs.declared.action.Effect.TheVariants.{Nothing}
+use Rattle.chi_flit.specs.declared.refusal.Refusal.{Refusal}
 use Rattle.chi_flit.specs.declared.refusal.Refusal.TheVariants.{LineBusy, NotWaiting}
 use Rattle.chi_flit.specs.Message.{channel_of}
 use Rattle.chi_flit.specs.Kind.{snoop_of}
@@ -59,9 +60,9 @@ evicted_by CleanUnique slot home agent = ap completed_slot (served_effect home C
 evicted_by Evict slot home agent = refl
 evicted_by copy_back slot home agent = refl
 
-pub evicted_slot_is : (home : Home) (agent : Agent) (request : Waiting) → waiting_of home agent.0 ≡ Some request → is_idle home.serving ≡ true
+pub evicted_slot_is : (home : Home) (agent : Agent) (request : Waiting) → waiting_of home agent.0 ≡ Some request → start_refusal home agent.0 ≡ None
     → slot_unless (start_refusal home agent.0) (waiting_effect home agent (waiting_of home agent.0)) ≡ slot_of_evict request.kind request.slot
-evicted_slot_is home agent request w idle =
-    ap (λ (o : Option Waiting). slot_unless (if is_some o then (if is_idle home.serving then None else Some LineBusy) else Some NotWaiting) (waiting_effect home agent o)) w
-    ∙ (ap (λ (b : Bool). slot_unless (if b then None else Some LineBusy) (started_effect (started_sends home agent request))) idle
+evicted_slot_is home agent request w free =
+    ap (λ (r : Option Refusal). slot_unless r (waiting_effect home agent (waiting_of home agent.0))) free
+    ∙ (ap (λ (o : Option Waiting). slot_unless None (waiting_effect home agent o)) w
     ∙ evicted_by request.kind request.slot home agent)

@@ -284,17 +284,16 @@ impl CoherentLine {
     }
 }
 
-/// The slot that a Start of the agent's request would complete: that of an Evict that waits at an idle
-/// line.
+/// The slot that a Start of the agent's request would complete: that of an Evict, where nothing refuses the
+/// Start.
 fn evicted_slot(home: &HomeLine, agent: Agent) -> Option<Slot>
     requires { agent.0 < 8 }
     ensures { result
         ≡ slot_unless (start_refusal home.now agent.0) (waiting_effect home.now agent (waiting_of home.now agent.0)) }
 {
-    let request = home.waiting(agent)?;
-    match home.serving() {
-        Serving::Idle => slot_of_evict(request),
-        _ => None,
+    match home.why_no_start(agent) {
+        Some(_) => None,
+        None => slot_of_evict(home.waiting(agent)?),
     }
 }
 

@@ -7,6 +7,8 @@
 #[cfg(test)]
 mod agreement;
 #[cfg(test)]
+mod beside;
+#[cfg(test)]
 mod ends;
 #[cfg(test)]
 mod locks;

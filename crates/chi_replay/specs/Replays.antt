@@ -40,6 +40,10 @@ NoTextAt result read file before after = IfErr result (λ fault. fault ≢ Write
 abbrev pub AtWrite : {A : Type 0} → Result A Fault → Type 0 → Type 0
 AtWrite result holds = IsErrOf result Write → holds
 
+-- whatever fault is read is answered
+abbrev pub TellsFault : {F A : Type 0} → Result F Fault → Result A Fault → Type 0
+TellsFault read result = (fault : Fault) → read ≡ Err fault → result ≡ Err fault
+
 -- the answer is this fault, unless reading failed or memory ran out first
 abbrev pub Refuses : {A : Type 0} → Fault → Result A Fault → Type 0
 Refuses fault result = (result ≡ Err fault) ⊎ ((result ≡ Err Read) ⊎ (result ≡ Err NoMemory))

@@ -5,10 +5,10 @@ ghost use Rattle.std.specs.Io.KnownBytes.{Keeps};
 ghost use Rattle.chi_script.specs.Faults.{Fails};
 ghost use Rattle.chi_script.specs.Files.{commands_of, file_of, lines_of};
 ghost use Rattle.chi_replay.specs.Texts.{IsTextOfLines};
-ghost use Rattle.chi_replay.specs.Replays.{AtWrite, IsTextOf, KeepsAtFault, NoText, NoTextAt, RefusesFault, WritesFront, WritesText};
+ghost use Rattle.chi_replay.specs.Replays.{AtWrite, IsTextOf, KeepsAtFault, NoText, NoTextAt, RefusesFault, TellsFault, WritesFront, WritesText};
 
 use crate::runs::run_lines;
-use chi_script::{Failed, Fault, Input, Output, check_lines, read_all, read_head};
+use chi_script::{Failed, Fault, Input, Output, first_fault, read_all, read_head};
 use chi_slice::Config;
 use std::alloc::Allocator;
 
@@ -24,8 +24,8 @@ fn text_of<A: Allocator + Copy>(alloc: A, bytes: &[u8]) -> Result<String<A>, Fau
     }
 }
 
-/// The same of the lines behind a header. Each is played as soon as it is read; where memory runs out, those
-/// that are left are read all the same, so that a faulty file is told as one.
+/// The text of the lines behind a header. Each is played as soon as it is read; where memory runs out,
+/// they are read again, so that faulty lines are told as such.
 fn text_of_lines<A: Allocator + Copy>(
     alloc: A,
     config: &Config,
@@ -33,13 +33,11 @@ fn text_of_lines<A: Allocator + Copy>(
 ) -> Result<String<A>, Fault>
     ensures ok { IfOk result (λ text. IsTextOfLines config.now lines.now (string_bytes text)) }
     ensures err { IfErr result (λ fault. Fails fault (commands_of 2 (lines_of lines.now))) }
+    ensures faulty { TellsFault (commands_of 2 (lines_of lines.now)) result }
 {
     match run_lines(alloc, config, lines) {
-        Err(Fault::NoMemory) => match check_lines(lines) {
-            Ok(()) => Err(Fault::NoMemory),
-            Err(fault) => Err(fault),
-        },
-        played => played,
+        Ok(text) => Ok(text),
+        Err(fault) => Err(first_fault(lines, fault)),
     }
 }
 

@@ -3,41 +3,42 @@
 ghost use Rattle.std.specs.Prelude.{◌≡◌};
 
 use chi_flit::{Action, Agent, Config, CreditType, Kind, Line, Slot, Step, WordNo};
+use chi_replay::replay;
 use chi_script::{
-    Command, Fault, MOST_BYTES, RequesterAction, commands_are_lines, headers_are_lines, number,
-    numbers_are_decimal, read_command, read_file, read_header, replay_front_is_enough, small,
+    Command, Fault, MOST_BYTES, MemoryInput, MemoryOutput, RequesterAction, command_in,
+    commands_are_lines, first_line, headers_are_lines, number, numbers_are_decimal, read_command,
+    read_head, read_header, replay_front_is_enough, small,
 };
 use std::alloc::{AllocError, Global};
 use std::process::Abort;
 
-/// The header of six numbers that stands before the commands of most tests.
-const HEADER: &[u8] = b"node 2 4 1 1 1 4\n";
+/// The replay of the file ends with that fault, and nothing is written then; or with none.
+fn faults(rt: &(impl Abort + AllocGlobal), file: &[u8], wanted: Option<Fault>) {
+    let mut input = MemoryInput::new(file, 1_000);
+    let mut output = MemoryOutput::new(rt.alloc(), 1_000);
+    let fault = replay(rt.alloc(), &mut input, &mut output).err();
+    assert!(rt; fault == wanted, "{file:?}");
+    assert!(rt; wanted.is_none() || output.bytes().is_empty(), "{file:?}");
+}
 
-/// What reading a file answers, without the commands.
-fn fault_of(alloc: Global, bytes: &[u8]) -> Option<Fault> {
-    match read_file(alloc, bytes) {
-        Ok(_) => None,
-        Err(fault) => Some(fault),
+/// One line, which is given without its end, is read so as line 2 of a file.
+fn reads(rt: &impl Abort, line: &[u8], wanted: Result<Command, Fault>) {
+    assert!(rt; command_in(line, 2) == wanted, "{line:?}");
+}
+
+/// Whether the lines are these commands, and no more.
+fn are(lines: &[u8], commands: &[Command]) -> bool {
+    let mut rest = lines;
+    for command in commands {
+        let Some((line, after)) = first_line(rest) else {
+            return false;
+        };
+        if command_in(line, 2) != Ok(*command) {
+            return false;
+        }
+        rest = after;
     }
-}
-
-/// Reading the file has that fault, or none.
-fn faults(rt: &impl Abort, alloc: Global, file: &[u8], wanted: Option<Fault>) {
-    assert!(rt; fault_of(alloc, file) == wanted, "{file:?}");
-}
-
-/// What one line, which is given without its end, is as line 2 of a file.
-fn line_two(alloc: Global, line: &[u8]) -> Result<Option<Command>, Fault> {
-    let mut file = Vec::from_slice(alloc, HEADER)?;
-    file.extend_from_slice(line)?;
-    file.push(b'\n')?;
-    let script = read_file(alloc, &file)?;
-    Ok(script.commands.first().copied())
-}
-
-/// One line, which is given without its end, is read so.
-fn reads(rt: &impl Abort, alloc: Global, line: &[u8], wanted: Result<Option<Command>, Fault>) {
-    assert!(rt; line_two(alloc, line) == wanted, "{line:?}");
+    rest.is_empty()
 }
 
 /// That step of agent 1 on line 3.
@@ -60,21 +61,19 @@ fn action_in(command: &Command) -> Option<Action> {
 }
 
 /// One line, which is given without its end, is read as a command that is this action.
-fn acts(rt: &impl Abort, alloc: Global, line: &[u8], wanted: Action) {
-    let read = match line_two(alloc, line) {
-        Ok(Some(command)) => action_in(&command),
-        _ => None,
+fn acts(rt: &impl Abort, line: &[u8], wanted: Action) {
+    let read = match command_in(line, 2) {
+        Ok(command) => action_in(&command),
+        Err(_) => None,
     };
     assert!(rt; read == Some(wanted), "{line:?}");
 }
 
 #[test]
-fn a_good_file_is_its_header_and_its_commands(rt: HostRuntime) -> Result<(), Fault> {
+fn a_good_file_is_its_header_and_its_commands(rt: HostRuntime) {
     let file =
         b"node 8 64 1 32 32 65536\nissue 1 3 ReadNotSharedDirty 7\narrive 1 3\nstart 1 3\ndata 1 3\nack 1 3\nflits 256 300\nshow 255\ntotals\naudit\n";
-    let script = read_file(rt.alloc(), file)?;
     let config = Config::new(8, 64, 1, 32, 32, 65_536).expect(&rt, "sizes in their limits");
-    assert!(rt; script.header == config);
     let commands = [
         Command::Act(RequesterAction::new(action(Step::Issue(Kind::ReadNotSharedDirty, Slot(7))))),
         Command::Arrive {
@@ -92,8 +91,8 @@ fn a_good_file_is_its_header_and_its_commands(rt: HostRuntime) -> Result<(), Fau
         Command::Totals,
         Command::Audit,
     ];
-    assert!(rt; script.commands.as_slice() == commands.as_slice());
-    Ok(())
+    let head = read_head(rt.alloc(), file);
+    assert!(rt; matches!(head, Ok((header, lines)) if header == config && are(lines, &commands)));
 }
 
 const ACTIONS: [(&[u8], Step); 18] = [
@@ -123,7 +122,7 @@ const ACTIONS: [(&[u8], Step); 18] = [
 #[test]
 fn each_action_is_a_line(rt: HostRuntime) {
     for (line, step) in &ACTIONS {
-        acts(&rt, rt.alloc(), line, action(*step));
+        acts(&rt, line, action(*step));
     }
 }
 
@@ -142,7 +141,7 @@ const KINDS: [(&[u8], Kind); 8] = [
 fn each_kind_is_named(rt: HostRuntime) {
     for (line, kind) in &KINDS {
         let issue = action(Step::Issue(*kind, Slot(0)));
-        acts(&rt, rt.alloc(), line, issue);
+        acts(&rt, line, issue);
     }
 }
 
@@ -200,7 +199,7 @@ const OTHER_LINES: [&[u8]; 48] = [
 #[test]
 fn other_lines_are_no_commands(rt: HostRuntime) {
     for line in &OTHER_LINES {
-        reads(&rt, rt.alloc(), line, Err(Fault::BadCommand(2)));
+        reads(&rt, line, Err(Fault::BadCommand(2)));
     }
 }
 
@@ -244,7 +243,7 @@ const CREDITS: [(&[u8], Command); 6] = [
 #[test]
 fn credits_have_commands(rt: HostRuntime) {
     for (line, command) in &CREDITS {
-        reads(&rt, rt.alloc(), line, Ok(Some(*command)));
+        reads(&rt, line, Ok(*command));
     }
 }
 
@@ -264,7 +263,7 @@ const HEADERS: [&[u8]; 10] = [
 #[test]
 fn headers_of_both_forms_are_read(rt: HostRuntime) {
     for file in &HEADERS {
-        faults(&rt, rt.alloc(), file, None);
+        faults(&rt, file, None);
     }
 }
 
@@ -289,7 +288,7 @@ const OTHER_HEADERS: [&[u8]; 15] = [
 #[test]
 fn other_headers_are_bad(rt: HostRuntime) {
     for file in &OTHER_HEADERS {
-        faults(&rt, rt.alloc(), file, Some(Fault::BadHeader(1)));
+        faults(&rt, file, Some(Fault::BadHeader(1)));
     }
 }
 
@@ -340,14 +339,14 @@ const FAULTY_FILES: [(&[u8], Fault); 25] = [
 #[test]
 fn the_first_fault_is_told(rt: HostRuntime) {
     for (file, fault) in &FAULTY_FILES {
-        faults(&rt, rt.alloc(), file, Some(*fault));
+        faults(&rt, file, Some(*fault));
     }
 }
 
 #[test]
 fn the_largest_number_is_read(rt: HostRuntime) {
     let file = b"node 1 1 1 1 1 1\nshow 18446744073709551615\n";
-    faults(&rt, rt.alloc(), file, None);
+    faults(&rt, file, None);
     assert!(rt; number(b"18446744073709551615") == Some(18_446_744_073_709_551_615));
     assert!(rt; small(b"254") == Some(254) && small(b"-1").is_none());
 }
@@ -356,9 +355,9 @@ fn the_largest_number_is_read(rt: HostRuntime) {
 fn a_file_above_the_limit_is_too_large(rt: HostRuntime) -> Result<(), AllocError> {
     let mut file = Vec::from_slice(rt.alloc(), b"node 1 1 1 1 1 1\n")?;
     file.resize(MOST_BYTES, b' ')?;
-    faults(&rt, rt.alloc(), &file, Some(Fault::MissingNewline(2)));
+    faults(&rt, &file, Some(Fault::MissingNewline(2)));
     file.push(b' ')?;
-    faults(&rt, rt.alloc(), &file, Some(Fault::TooLarge));
+    faults(&rt, &file, Some(Fault::TooLarge));
     Ok(())
 }
 

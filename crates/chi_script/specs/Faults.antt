@@ -1,5 +1,5 @@
 -- Faults, their statuses and their texts (docs/FORMATS.md, "The program").
-use Rattle.std.specs.Prelude.{◌≡◌, ℕ, List, ◌++◌, codes, Result, Ok, Err}
+use Rattle.std.specs.Prelude.{◌≡◌, ℕ, ◌<◌, List, ◌++◌, length, codes, Result, Ok, Err}
 use Rattle.std.specs.Fmt.{decimal}
 use Rattle.chi_script.specs.declared.faults.Fault.{Fault}
 use Rattle.chi_script.specs.declared.faults.Fault.TheVariants as faults
@@ -38,3 +38,12 @@ Fails faults.Write read = ⊥
 abbrev pub Gives : {X Y : Type 0} → (X → Y) → Result X Fault → Result Y Fault → Type 0
 Gives view (Ok x) read = read ≡ Ok (view x)
 Gives view (Err fault) read = Fails fault read
+
+-- What a function that takes no memory returned, seen by view, is what the grammar reads, and nothing else.
+abbrev pub Reads : {X Y : Type 0} → (X → Y) → Result X Fault → Result Y Fault → Type 0
+Reads view (Ok x) read = read ≡ Ok (view x)
+Reads view (Err fault) read = read ≡ Err fault
+
+-- a file of more bytes than there may be is told as that
+abbrev pub TellsTooLarge : {X : Type 0} → ℕ → List ℕ → Result X Fault → Type 0
+TellsTooLarge most file result = most < length file → result ≡ Err faults.TooLarge

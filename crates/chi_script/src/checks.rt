@@ -2,7 +2,7 @@
 
 ghost use Rattle.std.specs.Prelude.{◌≡◌};
 ghost use Rattle.std.specs.Option.{option_map};
-ghost use Rattle.chi_script.specs.Faults.{Gives};
+ghost use Rattle.chi_script.specs.Faults.{Reads};
 ghost use Rattle.chi_script.specs.Checks.{is_comment, parts_of, line_of_check};
 ghost use Rattle.chi_script.specs.CheckFiles.{check_at};
 
@@ -51,7 +51,7 @@ pub(crate) fn parts(line: &[u8]) -> (&[u8], Option<&[u8]>)
 /// fault. `BadCommand` where what stands before its first arrow is no command.
 /// Source: `docs/FORMATS.md`, "Check files".
 pub(crate) fn check_in(line: &[u8], number: usize) -> Result<Check<'_>, Fault>
-    ensures { Gives line_of_check result (check_at number line.now) }
+    ensures { Reads line_of_check result (check_at number line.now) }
 {
     let (front, wanted) = parts(line);
     let command = read_command(front).ok_or(Fault::BadCommand(number))?;

@@ -1,8 +1,8 @@
-//! A whole replay file: its header and its commands, or its first fault.
+//! The parts of a replay file: its header, its lines, and the command that a line is.
 
 ghost use Rattle.std.specs.Prelude.{◌≡◌, ◌<◌, ◌+◌, ◌==◌, ◌≤◌, ◌∷◌, [], length, IfErr, IfNone, IfSome, IfOk};
 ghost use Rattle.std.specs.List.{position};
-ghost use Rattle.chi_script.specs.Faults.{Fails, Gives};
+ghost use Rattle.chi_script.specs.Faults.{Fails, Gives, Reads, TellsTooLarge};
 ghost use Rattle.chi_script.specs.Files.{lines_of, header_at, command_at, commands_of, file_of, script_of, with_header};
 
 use crate::commands::{Command, read_command};
@@ -17,34 +17,6 @@ use std::alloc::Allocator;
 /// Source: `docs/PROTOCOL.md`, "Limits".
 pub const MOST_BYTES: usize = 1_048_576;
 
-/// A good replay file: the sizes of the system, and the commands in order.
-/// Source: `docs/FORMATS.md`, "Replay files".
-#[derive(Drop)]
-pub struct ReplayFile<A: Allocator> {
-    pub header: Config,
-    pub commands: Vec<Command, A>,
-}
-
-/// The header and the commands of a replay file, which is read whole.
-///
-/// `TooLarge` where the file has more than `MOST_BYTES` bytes, before all else. Otherwise the first
-/// faulty line is told: `BadHeader`, `BadCommand`, or `MissingNewline` where bytes stand behind the last
-/// line end. An empty file is `BadHeader`. `NoMemory` where memory runs out.
-/// Source: `docs/FORMATS.md`, "Replay files".
-pub fn read_file<A: Allocator + Copy>(alloc: A, bytes: &[u8]) -> Result<ReplayFile<A>, Fault>
-    ensures { Gives (λ script. (script.header, script.commands.items)) result (file_of bytes.now) }
-{
-    // (matched, since the checker doesn't follow a `?` on what has a reference and an invariant in it)
-    match read_head(alloc, bytes) {
-        Ok(head) => {
-            let commands = read_commands(alloc, head.1)?;
-            let header = head.0;
-            Ok(ReplayFile { header, commands })
-        }
-        Err(fault) => Err(fault),
-    }
-}
-
 /// The header of a replay file, and the lines behind it, which aren't read yet: they are its commands, or
 /// have its first fault.
 ///
@@ -57,6 +29,7 @@ pub fn read_head<A: Allocator>(alloc: A, bytes: &[u8]) -> Result<(Config, &[u8])
     ensures lines { IfOk result
         (λ head. file_of bytes.now ≡ with_header head.0 (commands_of 2 (lines_of head.1.now))) }
     ensures err { IfErr result (λ fault. Fails fault (file_of bytes.now)) }
+    ensures large { TellsTooLarge 1048576 bytes.now result }
 {
     if bytes.len() > MOST_BYTES {
         return Err(Fault::TooLarge);
@@ -80,26 +53,6 @@ fn read_first_line<A: Allocator>(alloc: A, bytes: &[u8]) -> Result<(Config, &[u8
     }
 }
 
-/// The commands of the lines from line 2 on.
-fn read_commands<A: Allocator + Copy>(alloc: A, bytes: &[u8]) -> Result<Vec<Command, A>, Fault>
-    ensures { Gives (λ commands. commands.items) result (commands_of 2 (lines_of bytes.now)) }
-{
-    let mut commands = Vec::new(alloc);
-    let mut rest = bytes;
-    let mut number = 2;
-    while let Some((line, after)) = first_line(rest) {
-        let command = command_in(line, number)?;
-        commands.push(command)?;
-        rest = after;
-        number += 1;
-    }
-    if rest.is_empty() {
-        Ok(commands)
-    } else {
-        Err(Fault::MissingNewline(number))
-    }
-}
-
 /// The header that a line is, which is given without its line end; its number is for the fault.
 /// `BadHeader` where it is none within the limits, and `NoMemory` where memory runs out.
 /// Source: `docs/FORMATS.md`, "Replay files", and `docs/PROTOCOL.md`, "Limits".
@@ -115,7 +68,7 @@ pub fn header_in<A: Allocator>(alloc: A, line: &[u8], number: usize) -> Result<C
 /// `BadCommand` where it is none.
 /// Source: `docs/FORMATS.md`, "Replay files".
 pub fn command_in(line: &[u8], number: usize) -> Result<Command, Fault>
-    ensures { Gives (λ command. command) result (command_at number line.now) }
+    ensures { Reads (λ command. command) result (command_at number line.now) }
 {
     read_command(line).ok_or(Fault::BadCommand(number))
 }

@@ -33,9 +33,9 @@ pub use checks::{Check, is_comment};
 pub use commands::{Command, read_command, read_kind};
 pub use devices::{Failed, Input, Output};
 pub use faults::Fault;
-pub use files::{MOST_BYTES, ReplayFile, command_in, first_line, header_in, read_file, read_head};
+pub use files::{MOST_BYTES, command_in, first_line, header_in, read_head};
 pub use fillers::{FILLER_BEGINS, FILLER_ENDS};
-pub use good_lines::check_lines;
+pub use good_lines::{check_lines, first_fault};
 pub use headers::read_header;
 pub use hints::{hint_at, line_at};
 pub use laws::{

@@ -1,6 +1,6 @@
 //! Devices over memory, which fail where they are told to.
 
-ghost use Rattle.std.specs.Prelude.{◌≡◌, ◌+◌, ◌^◌, ◌<◌, ◌≤◌, Some, [], length, IfOk, OnOk, OnErr};
+ghost use Rattle.std.specs.Prelude.{◌≡◌, ◌+◌, ◌^◌, ◌<◌, ◌≤◌, Some, [], length, min, IfOk, OnOk, OnErr};
 ghost use Rattle.std.specs.Io.KnownBytes.{Appends, ReadConsumes};
 ghost use Rattle.chi_script.specs.Devices.{AppendsFront};
 
@@ -50,6 +50,7 @@ impl Input for MemoryInput<'_> {
             (Some self.new.left.now) result buffer.new }
         ensures ok { OnOk result (self.new.failures ≡ self.old.failures) }
         ensures err { OnErr result (self.new.failures ≡ self.old.failures + 1) }
+        ensures most { IfOk result (λ count. count ≡ min (length self.old.left.now) (length buffer.new)) }
         ensures good { OnOk result (self.old.good_reads ≡ self.new.good_reads + 1) }
         ensures none { OnErr result (self.old.good_reads ≡ 0) }
         ensures stays { OnErr result (self.new.good_reads ≡ 0) }

@@ -19,7 +19,9 @@ pub use chi_journal::{Journal, Record, counted};
 pub use chi_line::{ActionOutcome, CopyView, LineView, Position, has_flit, pending_credit};
 pub use chi_rnline::{Pending, Phase, RnLine};
 pub use chi_wires::{Cells, cells_of};
-pub use laws::{an_action_leaves_one_slice, only_room_and_slots_join_lines};
+pub use laws::{
+    an_action_leaves_one_slice, only_room_and_slots_join_lines, what_is_computed_is_by_the_protocol,
+};
 pub use places::RequestPlace;
 pub use records::is_step_in_range;
 pub use slice::{EACH_CREDIT, Slice};

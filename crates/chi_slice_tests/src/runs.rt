@@ -19,9 +19,9 @@ use std::process::Abort;
 /// An agent's step at line 0, and what it is answered.
 pub type Move = (u8, Step, Result<Effect, Refusal>);
 
-const FREE: Result<Effect, Refusal> = Ok(Completed(Slot(0)));
+pub const FREE: Result<Effect, Refusal> = Ok(Completed(Slot(0)));
 
-const DONE: Result<Effect, Refusal> = Ok(Nothing);
+pub const DONE: Result<Effect, Refusal> = Ok(Nothing);
 
 /// A dirty copy is snooped by a ReadNotSharedDirty: memory and reader get its data.
 pub const DIRTY_DATA_HANDED_ON: [Move; 14] = [

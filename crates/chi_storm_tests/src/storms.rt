@@ -54,10 +54,11 @@ const NO_SCRIPT_TEXT: &[u8] =
 /// A file, the most turns of an agent, the text of its storm, and whether all of its scripts finish.
 type Storm = (&'static [u8], u64, &'static [u8], bool);
 
-const STORMS: [Storm; 6] = [
+const STORMS: [Storm; 7] = [
     (EIGHT_AGENTS, 10_000_000, EIGHT_AGENTS_TEXT, true),
     (FULL_JOURNAL, 10_000_000, FULL_JOURNAL_TEXT, false),
     (EACH_OPERATION, 10_000_000, EACH_OPERATION_TEXT, true),
+    (ONE_LINE, 10_000_000, ONE_LINE_TEXT, true),
     (ONE_LOAD, 4, FOUR_TURNS_TEXT, false),
     (ONE_LOAD, 5, FIVE_TURNS_TEXT, true),
     (NO_SCRIPT, 1, NO_SCRIPT_TEXT, true),

@@ -1,7 +1,7 @@
 use Rattle.std.proofs.Common.{sym, arith}
 use Rattle.std.proofs.lemmas.Result.{err_from_is_err_and}
 use Rattle.chi_script.specs.Files.{lines_of, commands_of}
-use Rattle.chi_script.proofs.CommandLoop.{so_far_none, so_far_line, stops, is_done, is_open}
+use Rattle.chi_script.proofs.CommandLoop.{so_far_none, so_far_line, stops_at, is_done, is_open}
 use Rattle.chi_script.proofs.good_lines.check_lines.Goals as goal
 
 pub loop-line-init : goal.loop-line-init
@@ -10,7 +10,7 @@ loop-line-init c = record { so_far = so_far_none c.args.lines.now; count = omega
 pub returns-in_err-_command-clause-err : goal.returns-in_err-_command-clause-err
 returns-in_err-_command-clause-err c =
     let p = err_from_is_err_and c.from_residual.result c.from_residual.ensures.1 in
-    rw (p.1, p.2) (stops c.in_err-_command.field-0.0 c.loop-line.invariant.so_far.front c.loop-line.number c.loop-line.rest.now c.in-Some.line.now c.in-Some.after.now (commands_of 2 (lines_of c.args.lines.now)) c.in-Some.ensures.some c.in_err-_command.ensures c.loop-line.invariant.so_far.same)
+    rw (p.1, p.2) (stops_at c.in_err-_command.field-0.0 c.loop-line.invariant.so_far.front c.loop-line.number c.loop-line.rest.now c.in-Some.line.now c.in-Some.after.now (commands_of 2 (lines_of c.args.lines.now)) c.in-Some.ensures.some c.in_err-_command.ensures c.loop-line.invariant.so_far.same)
 
 pub loop-line-preserved : goal.loop-line-preserved
 loop-line-preserved c = record {
