@@ -21,13 +21,14 @@ use Rattle.chi_observer.specs.declared.arriving.Arriving.{Arriving}
 use Rattle.chi_observer.specs.declared.arriving.Turn.{Turn}
 use Rattle.chi_observer.specs.declared.arriving.Turn.TheVariants as turns
 use Rattle.chi_observer.specs.Judged.{judges_act}
-use Rattle.chi_observer.specs.Rules.{allows, has_data, lets_go, may_be_free, needs_quiet, reads_any}
+use Rattle.chi_observer.specs.Rules.{allows, has_data, lets_go, may_be_free, needs_moment, needs_quiet, reads_any}
 use Rattle.chi_observer.specs.Tables.{Known, fits_issue, fits_told, most, renews}
 use Rattle.chi_observer.specs.Worlds.{all_below, put}
 use Rattle.chi_observer.specs.Observed.{fits, fits_word}
 use Rattle.chi_observer.specs.Lines.{Watched, is_taken, watch}
+use Rattle.chi_observer.specs.Doubts.{supposed}
 use Rattle.chi_observer.specs.Arriving.{bearing_of, holds_none, is_unlost, issued_before, says_dirty, turn_due, turn_held, turn_of}
-use Rattle.chi_observer.specs.Arrivals.{Arrived, again, again_held, answered, awaited, by_bearing, by_turn, earlier_at, given, granted_state, is_busy_at, is_doubtful, is_full, is_known, issued, issued_state, left_if, known_as, outcome_within, played, requested, sent_outcome, settled, taken_if, told_given, told_if, turn_at}
+use Rattle.chi_observer.specs.Arrivals.{Arrived, again, again_held, answered, awaited, by_bearing, by_turn, earlier_at, given, granted_state, is_busy_at, is_doubtful, is_full, issued, issued_state, left_if, known_as, outcome_within, played, requested, sent_outcome, settled, taken_if, told_given, told_if, turn_at}
 use Rattle.chi_observer.specs.Arrivals.Outcome.{Taken, NotTaken, LeftOpen}
 use Rattle.chi_observer.specs.Alike.{PromptIsJudgedAlike, is_idle, is_none_earlier, is_none_late, is_prompt, is_timely, is_writing, verdict}
 use Rattle.chi_observer.proofs.Copies.{below_all, each_below}
@@ -200,10 +201,10 @@ down_alike s g low h =
     ∙ told_alike s g
     (ap is_full acks)
     (ap (λ (b : Bool). needs_quiet g.grant && not b) quiet ∙ ends_false (needs_quiet g.grant))
-    (doubt (is_known s.line.seen g) _ _ _ free delayed)
+    (doubt (all_below 32 (λ m. holds_none (s.own m).held)) (s.own n).delayed (needs_moment g.grant (s.line.seen.public.due n)) (is_taken (supposed s.line s.own) (Down g)) free delayed)
   where
-    doubt : (k f d x : Bool) → f ≡ true → d ≡ false → (k && (not f || (d && x))) ≡ false
-    doubt k f d x hf hd = ap (λ (b : Bool). k && (not b || (d && x))) hf ∙ ap (λ (b : Bool). k && (b && x)) hd ∙ ends_false k
+    doubt : (f d x k : Bool) → f ≡ true → d ≡ false → ((not f || (d && x)) && k) ≡ false
+    doubt f d x k hf hd = ap (λ (b : Bool). (not b || (d && x)) && k) hf ∙ ap (λ (b : Bool). (b && x) && k) hd
 
 low_is : (n : ℕ) → n < 32 → nat_lt n 32 ≡ true
 low_is n h = search (rules, arith)

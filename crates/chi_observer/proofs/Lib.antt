@@ -36,6 +36,7 @@ mod Lines
 mod WordedLines
 mod Middle
 mod Received
+mod HeldRequests
 mod Alike
 mod Supposed
 mod Addressed

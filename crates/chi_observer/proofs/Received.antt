@@ -14,7 +14,6 @@ use Rattle.chi_observer.specs.declared.flits.Flit.{Flit}
 use Rattle.chi_observer.specs.declared.flits.Flit.TheVariants.{Up, Down}
 use Rattle.chi_observer.specs.declared.flits.Stores.TheVariants.{Hidden}
 use Rattle.chi_observer.specs.declared.flits.Due.TheVariants.{Nothing}
-use Rattle.chi_observer.specs.declared.observer.Reason.{Reason}
 use Rattle.chi_observer.specs.declared.arriving.Held.{Held}
 use Rattle.chi_observer.specs.declared.arriving.Held.TheVariants as helds
 use Rattle.chi_observer.specs.declared.arriving.Earlier.{Earlier}
@@ -27,9 +26,9 @@ use Rattle.chi_observer.specs.declared.observer.Observer.{Observer}
 use Rattle.chi_observer.specs.declared.arriving.Arriving.{Arriving}
 use Rattle.chi_observer.specs.Tables.{Known}
 use Rattle.chi_observer.specs.Worlds.{put}
-use Rattle.chi_observer.specs.Lines.{nobody, agent_of, is_reason, is_taken, known_of, Watched, nothing_watched, shown_of, watch, watched}
+use Rattle.chi_observer.specs.Lines.{nobody, agent_of, is_taken, known_of, Watched, nothing_watched, shown_of, watch, watched}
 use Rattle.chi_observer.specs.Arriving.{earlier_after, earlier_of, may_be_sent, nobody_arriving, own_granted, own_issued, own_resent, timed_after}
-use Rattle.chi_observer.specs.Arrivals.{Arrived, Outcome, again, again_held, answered, arriving_of, awaited, drifts, due_acknowledged, earlier_at, ended, granted_state, is_busy_at, is_busy_fault, is_doubtful, is_fault_of, is_full, is_sure, is_uncounted, is_untaken_awaited, is_untaken_line, is_untaken_played, is_untaken_told, is_unlost_at, issued, issued_state, leaves_unsure, left_if, line_issued, line_takes, nothing_arrived, outcome_of, played, settled, taken_if, told_given, untaken_by, with_current, with_due, with_line, with_own, with_shown, with_told}
+use Rattle.chi_observer.specs.Arrivals.{Arrived, Outcome, again, again_held, answered, arriving_of, awaited, drifts, due_acknowledged, earlier_at, ended, granted_state, is_busy_at, is_busy_fault, is_doubtful, is_fault_of, is_full, is_sure, is_uncounted, is_untaken_awaited, is_untaken_line, is_untaken_played, is_untaken_told, is_unlost_at, issued, issued_state, leaves_unsure, left_if, line_issued, line_takes, nothing_arrived, outcome_of, played, settled, taken_if, told_given, with_current, with_due, with_line, with_own, with_shown, with_told}
 use Rattle.chi_observer.specs.Arrivals.Outcome.{Taken, NotTaken, LeftOpen}
 use Rattle.chi_observer.proofs.Finite.{no}
 use Rattle.chi_observer.proofs.Put.{here, there, split}
@@ -200,28 +199,23 @@ told_by s g full busy taken = if full then LeftOpen else (if busy then NotTaken 
 full_at : (s : Arrived) (g : HomeFlit) (n : ℕ) → n ≡ g.agent.0 → is_full (s.own n).acks ≡ false → false ≡ is_full (s.own g.agent.0).acks
 full_at s g n hn ha = sym ha ∙ ap (λ (k : ℕ). is_full (s.own k).acks) hn
 
-told_open : (s : Arrived) (g : HomeFlit) (d : Bool) (reason : Reason) → left_if d ≡ outcome_of (Err (untaken_by d reason)) s
-told_open s g true reason = refl
-told_open s g false reason = refl
-
-pub told_none : (s t : Arrived) (g : HomeFlit) (n : ℕ) (reason : Reason) (u : Untaken) → n ≡ g.agent.0 → is_full (s.own n).acks ≡ false → false ≡ is_busy_at s g → false ≡ is_taken s.line (Down g) → u ≡ untaken_by (is_doubtful s g) reason → outcome_of (Err u) t ≡ told_given s g
-told_none s t g n reason u hn ha hb ht hu =
-    ap (λ (y : Untaken). outcome_of (Err y) t) hu
-    ∙ sym (told_open t g (is_doubtful s g) reason)
+pub told_none : (s t : Arrived) (g : HomeFlit) (n : ℕ) (u : Untaken) → n ≡ g.agent.0 → is_full (s.own n).acks ≡ false → false ≡ is_busy_at s g → false ≡ is_taken s.line (Down g) → outcome_of (Err u) t ≡ left_if (is_doubtful s g) → outcome_of (Err u) t ≡ told_given s g
+told_none s t g n u hn ha hb ht hu =
+    hu
     ∙ ap (λ (b : Bool). told_by s g false false b) ht
     ∙ ap (λ (b : Bool). told_by s g false b (is_taken s.line (Down g))) hb
     ∙ ap (λ (b : Bool). told_by s g b (is_busy_at s g) (is_taken s.line (Down g))) (full_at s g n hn ha)
 
-line_untaken : (s : Arrived) (g : HomeFlit) (reason : Reason) (d : Bool) → d ≡ is_doubtful s g → is_reason s.line (Down g) reason ≡ true → is_untaken_line s g (untaken_by d reason) ≡ true
-line_untaken s g reason true hd hr = ap (λ (b : Bool). b && is_doubtful s g) hr ∙ sym hd
-line_untaken s g reason false hd hr = ap (λ (b : Bool). b && not (is_doubtful s g)) hr ∙ ap (λ (b : Bool). not b) (sym hd)
-
-pub told_untaken : (s : Arrived) (g : HomeFlit) (n : ℕ) (reason : Reason) (u : Untaken) → n ≡ g.agent.0 → is_full (s.own n).acks ≡ false → false ≡ is_busy_at s g → u ≡ untaken_by (is_doubtful s g) reason → is_reason s.line (Down g) reason ≡ true → is_untaken_told s g u ≡ true
-told_untaken s g n reason u hn ha hb hu hr =
+pub told_untaken : (s : Arrived) (g : HomeFlit) (n : ℕ) (u : Untaken) → n ≡ g.agent.0 → is_full (s.own n).acks ≡ false → false ≡ is_busy_at s g → is_untaken_line s g u ≡ true → is_untaken_told s g u ≡ true
+told_untaken s g n u hn ha hb hu =
     sym (ap (λ (b : Bool). if b then is_uncounted u else (if is_busy_at s g then is_busy_fault u else is_untaken_line s g u)) (full_at s g n hn ha))
     ∙ sym (ap (λ (b : Bool). if b then is_busy_fault u else is_untaken_line s g u) hb)
-    ∙ ap (λ (y : Untaken). is_untaken_line s g y) hu
-    ∙ line_untaken s g reason (is_doubtful s g) refl hr
+    ∙ hu
+
+-- the outcome of one that isn't taken is the same of whatever was kept
+pub untaken_alike : (u : Untaken) (s t : Arrived) → outcome_of (Err u) s ≡ outcome_of (Err u) t
+untaken_alike (Fault reason) s t = refl
+untaken_alike (SetAside aside) s t = refl
 
 pub given_as : (s : Arrived) (g : HomeFlit) (n : ℕ) (w v : Watched) (c : Bool) (d : Due) (x : Arriving) → n ≡ g.agent.0 → is_full (s.own n).acks ≡ false → false ≡ is_busy_at s g → true ≡ is_taken s.line (Down g) → w ≡ watch s.line (Down g)
     → v ≡ with_due (with_current w c) n d → c ≡ (w.seen.current && not (may_be_sent (w.seen.public.due n) (w.seen.told n).told g.grant)) → d ≡ due_acknowledged (w.seen.public.due n)

@@ -8,8 +8,8 @@ use Rattle.chi_observer.specs.declared.flits.CacheFlit.{CacheFlit}
 use Rattle.chi_observer.specs.declared.flits.Flit.TheVariants.{Up, Down}
 use Rattle.chi_observer.specs.Rules.{has_data, looks, makes, stores}
 use Rattle.chi_observer.specs.Lines.{Watched, is_taken, watch, watch_as}
-use Rattle.chi_observer.specs.Worded.{Words, fits_words, forgets, may_read_any, no_words, renewed}
-use Rattle.chi_observer.specs.WordedLines.{WatchedWords, takes_by_word, watch_by_word, worded_in}
+use Rattle.chi_observer.specs.Worded.{Words, forgets, may_read_any, no_words, renewed}
+use Rattle.chi_observer.specs.WordedLines.{takes_by_word, watch_by_word, worded_in}
 use Rattle.chi_observer.specs.WordedLaws.{UnloadedFlitsAreAlike, unloaded}
 use Rattle.chi_observer.proofs.Finite.{no}
 use Rattle.chi_observer.proofs.DataInBeats.{and_true}

@@ -1,11 +1,10 @@
 -- The observer of a line whose flits are logged at the home: what a flit is taken as, and what is kept then
 -- (docs/OBSERVER.md, "Seen at the home"). It is told of requests behind what their agents sent first.
-use Rattle.std.specs.Prelude.{ℕ, Bool, true, false, List, ◌&&◌, ◌||◌, ◌==◌, not, nat_le, nat_lt, Option, Result, Ok, Err, if◌then◌else◌}
+use Rattle.std.specs.Prelude.{ℕ, Bool, true, false, List, ◌&&◌, ◌||◌, ◌==◌, not, nat_le, nat_lt, Result, Ok, Err, if◌then◌else◌}
 use Rattle.std.specs.List.{slice_index_or}
 use Rattle.chi_flit.specs.declared.state.State.TheVariants as states
 use Rattle.chi_observer.specs.declared.kinds.Kind.{Kind}
 use Rattle.chi_observer.specs.declared.kinds.Kind.TheVariants.{Evict}
-use Rattle.chi_observer.specs.declared.kinds.Snoop.{Snoop}
 use Rattle.chi_observer.specs.declared.told.Told.{Told}
 use Rattle.chi_observer.specs.declared.told.Told.TheVariants as tolds
 use Rattle.chi_observer.specs.declared.flits.Due.{Due}
@@ -13,13 +12,11 @@ use Rattle.chi_observer.specs.declared.flits.Due.TheVariants.{Nothing, Completio
 use Rattle.chi_observer.specs.declared.flits.Stores.TheVariants.{Hidden}
 use Rattle.chi_observer.specs.declared.flits.Act.{Act}
 use Rattle.chi_observer.specs.declared.flits.Act.TheVariants.{Request, Resend, SnpResp, CompAck, CopyBackWrData, NonCopyBackWrData, Load, Store}
-use Rattle.chi_observer.specs.declared.flits.Grant.{Grant}
 use Rattle.chi_observer.specs.declared.flits.CacheFlit.{CacheFlit}
 use Rattle.chi_observer.specs.declared.flits.HomeFlit.{HomeFlit}
 use Rattle.chi_observer.specs.declared.flits.Flit.{Flit}
 use Rattle.chi_observer.specs.declared.flits.Flit.TheVariants.{Up, Down}
 use Rattle.chi_observer.specs.declared.observer.AgentSeen.{AgentSeen}
-use Rattle.chi_observer.specs.declared.observer.Reason.{Reason}
 use Rattle.chi_observer.specs.declared.observer.Reason.TheVariants.{NotJudged, NoAgent, NotSent, Busy}
 use Rattle.chi_observer.specs.declared.arriving.Held.{Held}
 use Rattle.chi_observer.specs.declared.arriving.Held.TheVariants as helds
@@ -34,11 +31,11 @@ use Rattle.chi_observer.specs.declared.arrivals.Aside.TheVariants as asides
 use Rattle.chi_observer.specs.declared.arrivals.Untaken.{Untaken}
 use Rattle.chi_observer.specs.declared.arrivals.Untaken.TheVariants.{Fault, SetAside}
 use Rattle.chi_observer.specs.Copies.{is_unique}
-use Rattle.chi_observer.specs.Rules.{is_due, is_timed, lets_go, may_be_free, needs_duty, needs_moment, needs_overwriter, needs_quiet}
-use Rattle.chi_observer.specs.Tables.{Known, fits_form, fits_issue, kind_tells_dirty, strongest, shows_told}
+use Rattle.chi_observer.specs.Rules.{is_timed, lets_go, may_be_free, needs_moment, needs_quiet}
+use Rattle.chi_observer.specs.Tables.{Known, fits_form, fits_issue, kind_tells_dirty, strongest}
 use Rattle.chi_observer.specs.Worlds.{Public, all_below, put}
-use Rattle.chi_observer.specs.Observed.{Observed, fits}
 use Rattle.chi_observer.specs.Lines.{Watched, is_reason, is_taken, nothing_watched, watch, watched}
+use Rattle.chi_observer.specs.Doubts.{supposed}
 use Rattle.chi_observer.specs.Arriving.{bearing_of, earlier_after, earlier_of, holds_none, is_clean_by, is_unlost, issued_before, may_be_sent, nobody_arriving, own_acknowledged, own_granted, own_holding, own_issued, own_resent, own_told, timed_after, turn_of}
 
 -- what is kept: what flits have told, of each agent what may be on its way, and how many CleanShared and ReadOnce have come
@@ -251,21 +248,18 @@ granted_state s w g = with_own (with_line s (granted_line w g)) g.agent.0 (grant
 abbrev pub is_full : ℕ → Bool
 is_full acks = nat_le 255 acks
 
--- what a request that is held tells may show that the rules on other copies, on moments and on whom a copy is thrown away
--- for are kept; not that the flit is due, the duty and the words the home's own, or a snoop early; and a moment may have been
--- while the agent's own request was held
-abbrev pub is_plain_snoop : Grant → Bool
-is_plain_snoop grant = needs_quiet grant && not (needs_overwriter grant)
+-- a request that is held bears on what the home may send: one of the line, or a moment may have been while the agent's own
+-- CleanShared or ReadOnce was
+abbrev pub is_late_at : Arrived → HomeFlit → Bool
+is_late_at s g = not (all_below 32 (λ m. holds_none (s.own m).held)) || ((s.own g.agent.0).delayed && needs_moment g.grant (s.line.seen.public.due g.agent.0))
 
-abbrev pub is_known_by : Due → Option Snoop → Known → Bool → Option (List ℕ) → HomeFlit → Bool
-is_known_by d q t duty home g = is_due g.grant d q && ((not (needs_duty g.grant) || duty)
-    && (not (is_plain_snoop g.grant) && (not (shows_told g.grant t) || fits home g.shown)))
+-- the line as those requests may tell it, where they bear on the flit
+abbrev pub line_at_most : Arrived → HomeFlit → Watched
+line_at_most s g = if is_late_at s g then supposed s.line s.own else s.line
 
-abbrev pub is_known : Observed → HomeFlit → Bool
-is_known o g = let n : ℕ = g.agent.0 in is_known_by (o.public.due n) (o.public.snooped n) (o.told n) o.public.duty o.home g
-
+-- each rule that the flit breaks rests on an agent that holds a request: as they may tell the line, it breaks none
 abbrev pub is_doubtful : Arrived → HomeFlit → Bool
-is_doubtful s g = is_known s.line.seen g && (not (all_below 32 (λ m. holds_none (s.own m).held)) || ((s.own g.agent.0).delayed && needs_moment g.grant (s.line.seen.public.due g.agent.0)))
+is_doubtful s g = is_late_at s g && is_taken (supposed s.line s.own) (Down g)
 
 abbrev pub left_if : Bool → Outcome
 left_if b = if b then LeftOpen else NotTaken
@@ -377,11 +371,9 @@ is_untaken_sent NonCopyBackWrData s f u = is_untaken_awaited s f u
 is_untaken_sent (Load word) s f u = is_not_judged u
 is_untaken_sent (Store word) s f u = is_not_judged u
 
-abbrev pub untaken_by : Bool → Reason → Untaken
-untaken_by doubtful reason = if doubtful then SetAside (asides.HeldRequest reason) else Fault reason
-
+-- a rule that it breaks as the line is told, whose agents hold requests; or one that it breaks whatever these tell
 abbrev pub is_untaken_line : Arrived → HomeFlit → Untaken → Bool
-is_untaken_line s g (Fault reason) = is_reason s.line (Down g) reason && not (is_doubtful s g)
+is_untaken_line s g (Fault reason) = is_reason (line_at_most s g) (Down g) reason && not (is_doubtful s g)
 is_untaken_line s g (SetAside (asides.HeldRequest reason)) = is_reason s.line (Down g) reason && is_doubtful s g
 is_untaken_line s g (SetAside other) = false
 

@@ -17,6 +17,7 @@ pub mod Wanted
 pub mod Begun
 pub mod Tails
 pub mod Arriving
+pub mod Doubts
 pub mod Arrivals
 pub mod Alike
 pub mod Crossing

@@ -1,18 +1,19 @@
 //! The observer of one line whose flits are logged at the home: those of a cache where they are received, however late.
 
 ghost use Rattle.std.specs.Prelude.{◌≡◌, ◌<◌, ◌&&◌, ◌||◌, ◌==◌, ℕ, IfErr, IfOk, OnErr, is_ok, not, true};
-ghost use Rattle.chi_observer.specs.Lines.{is_reason, is_taken, known_of, shown_of, watched};
+ghost use Rattle.chi_observer.specs.Lines.{is_reason, is_taken, shown_of, watched};
 ghost use Rattle.chi_observer.specs.Rules.{needs_quiet};
 ghost use Rattle.chi_observer.specs.Tables.{fits_issue};
 ghost use Rattle.chi_observer.specs.Arriving.{issued_before, may_be_sent};
-ghost use Rattle.chi_observer.specs.Arrivals.{acknowledged, again, all_acknowledged, answered_line, arrived, arriving_of, awaited, drifts, due_acknowledged, evicted, given, is_doubtful, is_fault_of, is_full, is_known_by, is_not_sent, is_plain_snoop, is_sure, is_unlost_at, is_untaken, is_untaken_again, is_untaken_awaited, is_untaken_evicted, is_untaken_given, is_untaken_issue, is_untaken_played, is_untaken_requested, is_untaken_sent, is_untaken_told, issued, leaves_unsure, line_issued, line_takes, none_held, nothing_arrived, outcome, outcome_of, played, request_of, requested, sent_outcome, settled, sure_shown, surely_shown, told_given, told_if, untaken_by, with_due, with_own, with_told};
-ghost use Rattle.chi_observer.specs.declared.flits.Flit.TheVariants.{Up};
+ghost use Rattle.chi_observer.specs.Arrivals.{acknowledged, again, all_acknowledged, answered_line, arrived, arriving_of, awaited, drifts, due_acknowledged, evicted, given, is_doubtful, is_fault_of, is_full, is_late_at, is_not_sent, is_sure, is_unlost_at, is_untaken, is_untaken_again, is_untaken_awaited, is_untaken_evicted, is_untaken_given, is_untaken_issue, is_untaken_line, is_untaken_played, is_untaken_requested, is_untaken_sent, is_untaken_told, issued, leaves_unsure, left_if, line_issued, line_takes, none_held, nothing_arrived, outcome, outcome_of, played, request_of, requested, sent_outcome, settled, sure_shown, surely_shown, told_given, told_if, with_due, with_own, with_told};
+ghost use Rattle.chi_observer.specs.declared.flits.Flit.TheVariants.{Down, Up};
 
 use crate::arriving::{Arriving, Bearing, Earlier, Held, Turn, is_timed, may_be_sent, timed_after};
+use crate::doubts::supposed;
 use crate::flits::{Act, CacheFlit, Due, Flit, Grant, HomeFlit, Stores};
 use crate::kinds::Kind;
-use crate::observer::{AgentSeen, Observer, Reason, may_be};
-use crate::rules::{is_due, needs_duty, needs_moment, needs_overwriter, needs_quiet};
+use crate::observer::{AgentSeen, Observer, Reason};
+use crate::rules::{needs_moment, needs_quiet};
 use crate::told::{Told, may_be_free, tells_dirty};
 use chi_flit::{Data, State};
 
@@ -383,28 +384,34 @@ impl Arrivals {
         Ok(())
     }
 
-    /// Why a flit of the home isn't taken that breaks this rule.
+    /// Why a flit of the home isn't taken that breaks this rule: one that it breaks whatever requests that are held tell, or
+    /// the line is set aside for theirs.
     fn untaken(&self, flit: HomeFlit, reason: Reason) -> Untaken
-        requires { flit.agent.0 < 32 }
-        ensures { result ≡ untaken_by (is_doubtful (arrived self.now) flit) reason }
+        requires agent { flit.agent.0 < 32 }
+        requires reason { is_reason (watched self.now.seen) (Down flit) reason ≡ true }
+        ensures outcome { outcome_of (Err result) (arrived self.now)
+            ≡ left_if (is_doubtful (arrived self.now) flit) }
+        ensures untaken { is_untaken_line (arrived self.now) flit result ≡ true }
     {
-        if self.is_doubtful(flit) {
-            Untaken::SetAside(Aside::HeldRequest(reason))
-        } else {
-            Untaken::Fault(reason)
+        if !self.is_late_at(flit) {
+            return Untaken::Fault(reason);
+        }
+        let mut told = supposed(&self.seen, &self.agents);
+        match told.take(Flit::Down(flit)) {
+            Ok(()) => Untaken::SetAside(Aside::HeldRequest(reason)),
+            Err(certain) => Untaken::Fault(certain),
         }
     }
 
-    /// Whether what a request that is held tells may show that a flit of the home is legal.
-    fn is_doubtful(&self, flit: HomeFlit) -> bool
+    /// Whether a request that is held bears on what the home may send: one of the line, or a moment may have been while the
+    /// agent's own was.
+    fn is_late_at(&self, flit: HomeFlit) -> bool
         requires { flit.agent.0 < 32 }
-        ensures { result ≡ is_doubtful (arrived self.now) flit }
+        ensures { result ≡ is_late_at (arrived self.now) flit }
     {
         let at = usize::from(flit.agent.0);
-        let agent = self.seen.agents[at];
-        let missed = self.agents[at].delayed && needs_moment(flit.grant, agent.due);
-        let known = is_known(flit, agent, self.seen.duty, &self.seen.home);
-        known && (!is_none_held(&self.agents) || missed)
+        let missed = self.agents[at].delayed && needs_moment(flit.grant, self.seen.agents[at].due);
+        !is_none_held(&self.agents) || missed
     }
 
     /// Sets what is kept of an agent.
@@ -524,24 +531,6 @@ fn due_acknowledged(due: Due) -> Due
         Due::Acknowledgement => Due::Nothing,
         _ => due,
     }
-}
-
-/// Whether a flit of the home is due, the duty and the words that it has are the home's, and it is no snoop but one that
-/// throws a copy away.
-fn is_known(flit: HomeFlit, agent: AgentSeen, duty: bool, home: &Option<Data>) -> bool
-    ensures { result ≡ is_known_by agent.due agent.snooped (known_of agent) duty home.now flit }
-{
-    is_due(flit.grant, agent.due, agent.snooped)
-        && (!needs_duty(flit.grant) || duty)
-        && !is_plain_snoop(flit.grant)
-        && (!agent.is_shown(flit.grant) || may_be(home, &flit.shown))
-}
-
-/// Whether a flit of the home is a snoop that throws no copy away.
-fn is_plain_snoop(grant: Grant) -> bool
-    ensures { result ≡ is_plain_snoop grant }
-{
-    needs_quiet(grant) && !needs_overwriter(grant)
 }
 
 /// Whether the value last stored is the home's right behind a flit of the home that leaves the agent so.

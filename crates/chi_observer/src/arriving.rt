@@ -469,7 +469,7 @@ fn may_cross(snoop: Snoop, kind: Kind, told: Told) -> bool
 }
 
 /// What the write data of a request leave of the copy at most.
-fn left_by_data(kind: Kind, told: Told) -> Told
+pub(crate) fn left_by_data(kind: Kind, told: Told) -> Told
     ensures { result ≡ left_by_data kind told }
 {
     match (kind, told) {

@@ -9,6 +9,7 @@ mod arriving;
 mod begun;
 mod counted;
 mod cuts;
+mod doubts;
 mod flits;
 mod kinds;
 mod late;

@@ -2,24 +2,10 @@
 #![tactic(auto)]
 
 #[cfg(test)]
-mod accesses;
+mod kept;
 #[cfg(test)]
-mod arrivals;
+mod rows;
 #[cfg(test)]
-mod begun;
+mod said;
 #[cfg(test)]
-mod flits;
-#[cfg(test)]
-mod kinds;
-#[cfg(test)]
-mod listed;
-#[cfg(test)]
-mod reads;
-#[cfg(test)]
-mod tails;
-#[cfg(test)]
-mod thrown;
-#[cfg(test)]
-mod traces;
-#[cfg(test)]
-mod words;
+mod walk;

@@ -3,10 +3,10 @@ use Rattle.std.proofs.Common.{rules, ◌≡◌, sym, ap, ◌∙◌}
 use Rattle.std.specs.Prelude.{true, false}
 use Rattle.chi_observer.specs.declared.flits.Flit.TheVariants.{Down}
 use Rattle.chi_observer.specs.declared.observer.Observer.{Observer}
-use Rattle.chi_observer.specs.Lines.{is_taken, watched}
-use Rattle.chi_observer.specs.Arrivals.{arrived, arriving_of, is_doubtful, is_full, untaken_by}
+use Rattle.chi_observer.specs.Lines.{is_reason, is_taken, watched}
+use Rattle.chi_observer.specs.Arrivals.{arrived, arriving_of, is_doubtful, is_full, is_untaken_line, left_if}
 use Rattle.chi_observer.specs.Arrivals.Outcome.{Taken}
-use Rattle.chi_observer.proofs.Received.{given_as, room, told_none, told_untaken}
+use Rattle.chi_observer.proofs.Received.{given_as, room, told_none, told_untaken, untaken_alike}
 use Rattle.chi_observer.proofs.arrivals.Arrivals.give_told.Goals as goal
 
 pub returns-in-Err-clause-outcome : goal.returns-in-Err-clause-outcome
@@ -16,9 +16,9 @@ returns-in-Err-clause-outcome c =
     let counted : is_full (arriving_of old.agents c.from-at.result).acks ≡ false = sym c.is_full.ensures ∙ room in
     let quiet : c.is_early.result ≡ false = search (rules, c.if-is_early) in
     let refused : false ≡ is_taken (watched old.seen) (Down c.args.flit) = search (rules, c.in-Err) in
-    let untaken : c.untaken.result ≡ untaken_by (is_doubtful (arrived old) c.args.flit) c.in-Err.reason =
-    c.untaken.ensures ∙ ap (λ (o : Observer). untaken_by (is_doubtful (arrived (record old { seen = o })) c.args.flit) c.in-Err.reason) c.in-Err.ensures.kept in
-    told_none (arrived old) (arrived (record old { seen = c.take.new.self })) c.args.flit c.from-at.result c.in-Err.reason c.untaken.result c.from-at.ensures counted (sym quiet ∙ c.is_early.ensures) refused untaken
+    let same = record old { seen = c.take.new.self } in
+    told_none (arrived old) (arrived same) c.args.flit c.from-at.result c.untaken.result c.from-at.ensures counted (sym quiet ∙ c.is_early.ensures) refused
+    (untaken_alike c.untaken.result (arrived same) (arrived same) ∙ c.untaken.ensures.outcome ∙ ap (λ (o : Observer). left_if (is_doubtful (arrived (record old { seen = o })) c.args.flit)) c.in-Err.ensures.kept)
 
 pub returns-in-Err-clause-untaken : goal.returns-in-Err-clause-untaken
 returns-in-Err-clause-untaken c =
@@ -26,9 +26,13 @@ returns-in-Err-clause-untaken c =
     let room : c.is_full.result ≡ false = search (rules, c.if-is_full) in
     let counted : is_full (arriving_of old.agents c.from-at.result).acks ≡ false = sym c.is_full.ensures ∙ room in
     let quiet : c.is_early.result ≡ false = search (rules, c.if-is_early) in
-    let untaken : c.untaken.result ≡ untaken_by (is_doubtful (arrived old) c.args.flit) c.in-Err.reason =
-    c.untaken.ensures ∙ ap (λ (o : Observer). untaken_by (is_doubtful (arrived (record old { seen = o })) c.args.flit) c.in-Err.reason) c.in-Err.ensures.kept in
-    told_untaken (arrived old) c.args.flit c.from-at.result c.in-Err.reason c.untaken.result c.from-at.ensures counted (sym quiet ∙ c.is_early.ensures) untaken c.in-Err.ensures.reason
+    let untaken : is_untaken_line (arrived old) c.args.flit c.untaken.result ≡ true =
+    sym (ap (λ (o : Observer). is_untaken_line (arrived (record old { seen = o })) c.args.flit c.untaken.result) c.in-Err.ensures.kept) ∙ c.untaken.ensures.untaken in
+    told_untaken (arrived old) c.args.flit c.from-at.result c.untaken.result c.from-at.ensures counted (sym quiet ∙ c.is_early.ensures) untaken
+
+pub untaken-requires-clause-reason : goal.untaken-requires-clause-reason
+untaken-requires-clause-reason c =
+    ap (λ (o : Observer). is_reason (watched o) (Down c.args.flit) c.in-Err.reason) c.in-Err.ensures.kept ∙ c.in-Err.ensures.reason
 
 pub returns-clause-outcome : goal.returns-clause-outcome
 returns-clause-outcome c =
