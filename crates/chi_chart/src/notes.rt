@@ -1,8 +1,5 @@
 //! What is written of a command's answer.
 
-ghost use Rattle.std.specs.Prelude.{◌≡◌, ◌++◌, OnOk, Some, codes, string_bytes};
-ghost use Rattle.chi_chart.specs.Notes.{agent_of_command, asker_x, beside, done_x, front_text, note_text, note_x, ok_words, step_front, store_x, words_in, words_tag, words_text};
-
 use crate::drawn::add_escaped;
 use crate::frame::Layout;
 use crate::layout::words_x;
@@ -22,8 +19,6 @@ struct Front(Command);
 struct StepFront(Step);
 
 impl fmt::Display for Front {
-    ghost output = { λ front. Some (front_text front.0) };
-
     fn fmt<W: fmt::Write>(&self, f: &mut fmt::Formatter<W>) -> fmt::Result {
         match self.0 {
             Command::Act(action) => {
@@ -36,8 +31,6 @@ impl fmt::Display for Front {
 }
 
 impl fmt::Display for StepFront {
-    ghost output = { λ front. Some (step_front front.0) };
-
     fn fmt<W: fmt::Write>(&self, f: &mut fmt::Formatter<W>) -> fmt::Result {
         match self.0 {
             Step::Load(word) => write!(f, "load {word}: "),
@@ -48,9 +41,7 @@ impl fmt::Display for StepFront {
 }
 
 /// The words of an answer that aren't written.
-fn ok_words(reply: &Reply) -> &'static [u8]
-    ensures { result.now ≡ ok_words reply.now }
-{
+fn ok_words(reply: &Reply) -> &'static [u8] {
     match reply {
         Reply::Done => b"ok",
         Reply::Value(_) => b"ok value ",
@@ -60,17 +51,13 @@ fn ok_words(reply: &Reply) -> &'static [u8]
 }
 
 /// The words of an answer that are written.
-fn words_in<'a>(reply: &Reply, answer: &'a [u8]) -> &'a [u8]
-    ensures { result.now ≡ words_in reply.now answer.now }
-{
+fn words_in<'a>(reply: &Reply, answer: &'a [u8]) -> &'a [u8] {
     let front = ok_words(reply).len().min(answer.len());
     &answer[front..]
 }
 
 /// The agent whose command it is.
-fn agent_of(command: Command) -> Option<Agent>
-    ensures { result ≡ agent_of_command command }
-{
+fn agent_of(command: Command) -> Option<Agent> {
     match command {
         Command::Totals | Command::Audit | Command::Show { .. } => None,
         Command::Flits { agent, .. }
@@ -83,9 +70,7 @@ fn agent_of(command: Command) -> Option<Agent>
 }
 
 /// Beside an agent, or else beside the home: where it is no agent's, or there is no such agent.
-fn beside(layout: &Layout, agent: Option<Agent>) -> u64
-    ensures { result ≡ beside layout.now agent }
-{
+fn beside(layout: &Layout, agent: Option<Agent>) -> u64 {
     let Some(agent) = agent else {
         return layout.home_words_x();
     };
@@ -97,16 +82,12 @@ fn beside(layout: &Layout, agent: Option<Agent>) -> u64
 }
 
 /// Beside the agent whose command it is, where it has a lifeline.
-fn asker_x(layout: &Layout, command: Command) -> u64
-    ensures { result ≡ asker_x layout.now command }
-{
+fn asker_x(layout: &Layout, command: Command) -> u64 {
     beside(layout, agent_of(command))
 }
 
 /// Where it is told that a step is done, if it is.
-fn store_x(agent: Agent, step: Step) -> Option<u64>
-    ensures { result ≡ store_x agent step }
-{
+fn store_x(agent: Agent, step: Step) -> Option<u64> {
     match step {
         Step::Store(..) => Some(words_x(agent)),
         _ => None,
@@ -114,9 +95,7 @@ fn store_x(agent: Agent, step: Step) -> Option<u64>
 }
 
 /// Where it is told that a command is done, if it is.
-fn done_x(command: Command) -> Option<u64>
-    ensures { result ≡ done_x command }
-{
+fn done_x(command: Command) -> Option<u64> {
     match command {
         Command::Act(action) => {
             let action = action.action();
@@ -127,9 +106,7 @@ fn done_x(command: Command) -> Option<u64>
 }
 
 /// Where a reply is told, if it is.
-fn note_x(layout: &Layout, command: Command, reply: &Reply) -> Option<u64>
-    ensures { result ≡ note_x layout.now command reply.now }
-{
+fn note_x(layout: &Layout, command: Command, reply: &Reply) -> Option<u64> {
     match reply {
         Reply::Done => done_x(command),
         Reply::Totals(_) | Reply::Line(_) | Reply::Flits(..) => None,
@@ -139,22 +116,17 @@ fn note_x(layout: &Layout, command: Command, reply: &Reply) -> Option<u64>
 }
 
 /// Puts behind the text what stands before words of this class.
-#[tactic(auto, unfolding(crate::specs::Notes::words_tag))]
 fn add_words_tag<A: Allocator>(
     text: &mut Vec<u8, A>,
     class: &str,
     x: u64,
     y: u64,
     front: &Front,
-) -> Result<(), NoMemory>
-    ensures { OnOk result
-        (text.new.items ≡ text.old.items ++ words_tag class.now x y (front_text front.now.0)) }
-{
+) -> Result<(), NoMemory> {
     write!(text, "<text class='{class}' x='{x}' y='{y}'>{front}").map_err(|_| NoMemory)
 }
 
 /// Puts words of this class behind the text.
-#[tactic(auto, unfolding(crate::specs::Notes::words_text))]
 fn add_words<A: Allocator>(
     text: &mut Vec<u8, A>,
     class: &str,
@@ -162,11 +134,7 @@ fn add_words<A: Allocator>(
     y: u64,
     front: &Front,
     words: &[u8],
-) -> Result<(), NoMemory>
-    ensures { OnOk result
-        (text.new.items
-        ≡ text.old.items ++ words_text class.now x y (front_text front.now.0) words.now) }
-{
+) -> Result<(), NoMemory> {
     add_words_tag(text, class, x, y, front)?;
     add_escaped(text, words)?;
     text.extend_from_slice(b"</text>\n")?;
@@ -174,7 +142,6 @@ fn add_words<A: Allocator>(
 }
 
 /// Puts what is told of a command's answer behind the text, so many pixels below the top.
-#[tactic(auto, unfolding(crate::specs::Notes::note_text))]
 pub(crate) fn add_note<A: Allocator>(
     text: &mut Vec<u8, A>,
     layout: &Layout,
@@ -182,10 +149,7 @@ pub(crate) fn add_note<A: Allocator>(
     command: &Command,
     reply: &Reply,
     answer: &[u8],
-) -> Result<(), NoMemory>
-    ensures { OnOk result (text.new.items
-        ≡ text.old.items ++ note_text layout.now y command.now reply.now answer.now) }
-{
+) -> Result<(), NoMemory> {
     let words = words_in(reply, answer);
     match (note_x(layout, *command, reply), reply.refusal()) {
         (None, _) => Ok(()),

@@ -1,10 +1,6 @@
 //! A chart as SVG.
 
-ghost use Rattle.std.specs.Prelude.{◌≡◌, ◌+◌, ◌++◌, ◌<◌, IfOk, OnOk, length, map};
-ghost use Rattle.std.specs.List.{flat_map, list_any, range_with_len};
-ghost use Rattle.chi_chart.specs.Picture.{difference_text, frame_text, head_text, headings_text, is_down, is_served, is_cell_taken, lifeline_at, lifeline_of, mark_text, marks_text, middle, names_if, names_text, or_bottom, row_head, row_text, row_told, rows_text, sent_text, served_until, serves_text, slice_heading, svg_of, taken_at, title_at};
-ghost use Rattle.chi_chart.specs.Drawn.{title_text};
-ghost use Rattle.chi_chart.specs.Played.{row_seen};
+ghost use Rattle.std.specs.Prelude.{◌<◌};
 
 use crate::drawn::{
     Arrow, Bar, Caption, Lifeline, RowArea, Sheet, SliceBox, StateMark, Title, add_heading,
@@ -22,33 +18,17 @@ use std::alloc::Allocator;
 use std::io::Write;
 
 /// Whether the flit of a cell is taken.
-fn is_taken(cell: &ChannelCell, mark: &Mark) -> bool
-    ensures { result ≡ is_cell_taken cell.now mark.now }
-{
+fn is_taken(cell: &ChannelCell, mark: &Mark) -> bool {
     match mark {
         Mark::Taken(other) => cell.is(other),
         _ => false,
     }
 }
 
-/// Whether one of the marks takes the flit of a cell.
-fn take(cell: &ChannelCell, marks: &[Mark]) -> bool
-    ensures { result ≡ list_any (is_cell_taken cell.now) marks.now }
-{
-    for mark in marks {
-        if is_taken(cell, mark) {
-            return true;
-        }
-    }
-    false
-}
-
 /// The first of the rows that takes the flit of a cell.
-fn taken_at<A: Allocator>(cell: &ChannelCell, rows: &[CommandRow<A>]) -> Option<u32>
-    ensures { result ≡ taken_at cell.now (map row_seen rows.now) }
-{
+fn taken_at<A: Allocator>(cell: &ChannelCell, rows: &[CommandRow<A>]) -> Option<u32> {
     for row in rows {
-        if take(cell, &row.marks) {
+        if row.marks.iter().any(|mark| is_taken(cell, mark)) {
             return Some(row.y);
         }
     }
@@ -56,33 +36,17 @@ fn taken_at<A: Allocator>(cell: &ChannelCell, rows: &[CommandRow<A>]) -> Option<
 }
 
 /// Whether the home comes to do something else at a line.
-fn is_served(line: Line, mark: &Mark) -> bool
-    ensures { result ≡ is_served line mark.now }
-{
+fn is_served(line: Line, mark: &Mark) -> bool {
     match mark {
         Mark::Serves(other, _) => line.0 == other.0,
         _ => false,
     }
 }
 
-/// Whether one of the marks says so.
-fn serve(line: Line, marks: &[Mark]) -> bool
-    ensures { result ≡ list_any (is_served line) marks.now }
-{
-    for mark in marks {
-        if is_served(line, mark) {
-            return true;
-        }
-    }
-    false
-}
-
 /// The first of the rows in which the home comes to do something else at a line.
-fn served_until<A: Allocator>(line: Line, rows: &[CommandRow<A>]) -> Option<u32>
-    ensures { result ≡ served_until line (map row_seen rows.now) }
-{
+fn served_until<A: Allocator>(line: Line, rows: &[CommandRow<A>]) -> Option<u32> {
     for row in rows {
-        if serve(line, &row.marks) {
+        if row.marks.iter().any(|mark| is_served(line, mark)) {
             return Some(row.y);
         }
     }
@@ -90,9 +54,7 @@ fn served_until<A: Allocator>(line: Line, rows: &[CommandRow<A>]) -> Option<u32>
 }
 
 /// A row's middle.
-fn middle(y: Option<u32>) -> Option<u64>
-    ensures { result ≡ middle y }
-{
+fn middle(y: Option<u32>) -> Option<u64> {
     match y {
         Some(y) => Some(u64::from(y) + 10),
         None => None,
@@ -100,16 +62,12 @@ fn middle(y: Option<u32>) -> Option<u64>
 }
 
 /// Where the letters of a heading stand whose band begins there.
-fn heading_y(y: u32) -> u64
-    ensures { result ≡ y + 13 }
-{
+fn heading_y(y: u32) -> u64 {
     u64::from(y) + 13
 }
 
 /// Whether a message goes to a requester.
-fn is_down(channel: Channel) -> bool
-    ensures { result ≡ is_down channel }
-{
+fn is_down(channel: Channel) -> bool {
     matches!(channel, Channel::Snp | Channel::RspDown | Channel::DatDown)
 }
 
@@ -129,15 +87,7 @@ impl<A: Allocator> Picture<A> {
         y: u32,
         cell: &ChannelCell,
         message: Msg,
-    ) -> Result<(), NoMemory>
-        ensures text { OnOk result
-            (self.new.text.items
-            ≡ self.old.text.items
-            ++ sent_text self.old.layout self.old.bottom
-            (map row_seen later.now) y cell.now message) }
-        ensures layout { self.new.layout ≡ self.old.layout }
-        ensures bottom { self.new.bottom ≡ self.old.bottom }
-    {
+    ) -> Result<(), NoMemory> {
         let (agent, home) = (agent_x(cell.agent), self.layout.home_x());
         let (from, to) = if is_down(cell.channel) {
             (home, agent)
@@ -166,15 +116,7 @@ impl<A: Allocator> Picture<A> {
         y: u32,
         line: Line,
         serving: Serving,
-    ) -> Result<(), NoMemory>
-        ensures text { OnOk result
-            (self.new.text.items
-            ≡ self.old.text.items
-            ++ serves_text self.old.layout self.old.bottom
-            (map row_seen later.now) y line serving) }
-        ensures layout { self.new.layout ≡ self.old.layout }
-        ensures bottom { self.new.bottom ≡ self.old.bottom }
-    {
+    ) -> Result<(), NoMemory> {
         if let Serving::Idle = serving {
             return Ok(());
         }
@@ -197,14 +139,7 @@ impl<A: Allocator> Picture<A> {
         later: &[CommandRow<A>],
         y: u32,
         mark: &Mark,
-    ) -> Result<(), NoMemory>
-        ensures text { OnOk result
-            (self.new.text.items
-            ≡ self.old.text.items
-            ++ mark_text self.old.layout self.old.bottom top (map row_seen later.now) y mark.now) }
-        ensures layout { self.new.layout ≡ self.old.layout }
-        ensures bottom { self.new.bottom ≡ self.old.bottom }
-    {
+    ) -> Result<(), NoMemory> {
         match mark {
             Mark::Turned(agent, state) => {
                 let mark = StateMark {
@@ -226,15 +161,7 @@ impl<A: Allocator> Picture<A> {
         top: u32,
         later: &[CommandRow<A>],
         marks: &[Mark],
-    ) -> Result<(), NoMemory>
-        ensures text { OnOk result
-            (self.new.text.items
-            ≡ self.old.text.items
-            ++ marks_text self.old.layout self.old.bottom top
-            (map row_seen later.now) top marks.now) }
-        ensures layout { self.new.layout ≡ self.old.layout }
-        ensures bottom { self.new.bottom ≡ self.old.bottom }
-    {
+    ) -> Result<(), NoMemory> {
         let mut y = top;
         for mark in marks {
             self.add_mark(top, later, y, mark)?;
@@ -244,14 +171,7 @@ impl<A: Allocator> Picture<A> {
     }
 
     /// Headings, one below the other.
-    fn add_headings(&mut self, top: u32, headings: &[Vec<u8, A>]) -> Result<(), NoMemory>
-        ensures text { OnOk result
-            (self.new.text.items
-            ≡ self.old.text.items
-            ++ headings_text top (map (λ heading. heading.items) headings.now)) }
-        ensures layout { self.new.layout ≡ self.old.layout }
-        ensures bottom { self.new.bottom ≡ self.old.bottom }
-    {
+    fn add_headings(&mut self, top: u32, headings: &[Vec<u8, A>]) -> Result<(), NoMemory> {
         let mut y = top;
         for heading in headings {
             add_heading(&mut self.text, heading_y(y), heading)?;
@@ -261,25 +181,13 @@ impl<A: Allocator> Picture<A> {
     }
 
     /// A name on a lifeline.
-    fn add_title(&mut self, agent: Option<Agent>, x: u64, y: u64) -> Result<(), NoMemory>
-        ensures text { OnOk result
-            (self.new.text.items ≡ self.old.text.items ++ title_text agent x y) }
-        ensures layout { self.new.layout ≡ self.old.layout }
-        ensures bottom { self.new.bottom ≡ self.old.bottom }
-    {
+    fn add_title(&mut self, agent: Option<Agent>, x: u64, y: u64) -> Result<(), NoMemory> {
         let title = Title { agent, x, y };
         write!(self.text, "{title}").map_err(|_| NoMemory)
     }
 
     /// The names of the agents.
-    fn add_agent_names(&mut self, y: u64) -> Result<(), NoMemory>
-        ensures text { OnOk result
-            (self.new.text.items
-            ≡ self.old.text.items
-            ++ flat_map (title_at y) (range_with_len 0 self.old.layout.agents)) }
-        ensures layout { self.new.layout ≡ self.old.layout }
-        ensures bottom { self.new.bottom ≡ self.old.bottom }
-    {
+    fn add_agent_names(&mut self, y: u64) -> Result<(), NoMemory> {
         for agent in 0..self.layout.agents {
             self.add_title(Some(Agent(agent)), agent_x(Agent(agent)), y)?;
         }
@@ -287,12 +195,7 @@ impl<A: Allocator> Picture<A> {
     }
 
     /// The names of the home and of the agents, where they are repeated.
-    fn add_names_if(&mut self, names: bool, top: u32) -> Result<(), NoMemory>
-        ensures text { OnOk result
-            (self.new.text.items ≡ self.old.text.items ++ names_if self.old.layout names top) }
-        ensures layout { self.new.layout ≡ self.old.layout }
-        ensures bottom { self.new.bottom ≡ self.old.bottom }
-    {
+    fn add_names_if(&mut self, names: bool, top: u32) -> Result<(), NoMemory> {
         if !names {
             return Ok(());
         }
@@ -302,15 +205,7 @@ impl<A: Allocator> Picture<A> {
     }
 
     /// The area of a row whose answer is another than the wanted one, and both answers in the band that begins there.
-    fn add_difference(&mut self, row: &CommandRow<A>, band: u32) -> Result<(), NoMemory>
-        ensures text { OnOk result
-            (self.new.text.items
-            ≡ self.old.text.items
-            ++ difference_text self.old.layout (row_seen row.now).y band (row_seen row.now).wanted
-            (row_seen row.now).answer) }
-        ensures layout { self.new.layout ≡ self.old.layout }
-        ensures bottom { self.new.bottom ≡ self.old.bottom }
-    {
+    fn add_difference(&mut self, row: &CommandRow<A>, band: u32) -> Result<(), NoMemory> {
         let Some(wanted) = &row.wanted else {
             return Ok(());
         };
@@ -325,14 +220,7 @@ impl<A: Allocator> Picture<A> {
     }
 
     /// The head of a row: the names where they are repeated, its headings and its command.
-    #[tactic(auto, unfolding(crate::specs::Picture::row_head))]
-    fn add_row_head(&mut self, row: &CommandRow<A>) -> Result<(), NoMemory>
-        ensures text { OnOk result
-            (self.new.text.items
-            ≡ self.old.text.items ++ row_head self.old.layout (row_seen row.now)) }
-        ensures layout { self.new.layout ≡ self.old.layout }
-        ensures bottom { self.new.bottom ≡ self.old.bottom }
-    {
+    fn add_row_head(&mut self, row: &CommandRow<A>) -> Result<(), NoMemory> {
         self.add_names_if(row.names, row.start)?;
         let headings = lower(row.start, names_height(row.names))?;
         self.add_headings(headings, &row.headings)?;
@@ -347,16 +235,11 @@ impl<A: Allocator> Picture<A> {
     }
 
     /// What is told of a row's answer, its marks, with the rows below it, and the answer that was wanted.
-    #[tactic(auto, unfolding(crate::specs::Picture::row_told))]
-    fn add_row_told(&mut self, row: &CommandRow<A>, later: &[CommandRow<A>]) -> Result<(), NoMemory>
-        ensures text { OnOk result
-            (self.new.text.items
-            ≡ self.old.text.items
-            ++ row_told self.old.layout self.old.bottom
-            (row_seen row.now) (map row_seen later.now)) }
-        ensures layout { self.new.layout ≡ self.old.layout }
-        ensures bottom { self.new.bottom ≡ self.old.bottom }
-    {
+    fn add_row_told(
+        &mut self,
+        row: &CommandRow<A>,
+        later: &[CommandRow<A>],
+    ) -> Result<(), NoMemory> {
         let words_y = u64::from(row.y) + 14;
         add_note(
             &mut self.text,
@@ -372,29 +255,13 @@ impl<A: Allocator> Picture<A> {
     }
 
     /// A row, with the rows below it.
-    #[tactic(auto, unfolding(crate::specs::Picture::row_text))]
-    fn add_row(&mut self, row: &CommandRow<A>, later: &[CommandRow<A>]) -> Result<(), NoMemory>
-        ensures text { OnOk result
-            (self.new.text.items
-            ≡ self.old.text.items
-            ++ row_text self.old.layout self.old.bottom
-            (row_seen row.now) (map row_seen later.now)) }
-        ensures layout { self.new.layout ≡ self.old.layout }
-        ensures bottom { self.new.bottom ≡ self.old.bottom }
-    {
+    fn add_row(&mut self, row: &CommandRow<A>, later: &[CommandRow<A>]) -> Result<(), NoMemory> {
         self.add_row_head(row)?;
         self.add_row_told(row, later)
     }
 
     /// All rows.
-    fn add_rows(&mut self, rows: &[CommandRow<A>]) -> Result<(), NoMemory>
-        ensures text { OnOk result
-            (self.new.text.items
-            ≡ self.old.text.items
-            ++ rows_text self.old.layout self.old.bottom (map row_seen rows.now)) }
-        ensures layout { self.new.layout ≡ self.old.layout }
-        ensures bottom { self.new.bottom ≡ self.old.bottom }
-    {
+    fn add_rows(&mut self, rows: &[CommandRow<A>]) -> Result<(), NoMemory> {
         for place in 0..rows.len() {
             self.add_row(&rows[place], &rows[place + 1..])?;
         }
@@ -404,11 +271,6 @@ impl<A: Allocator> Picture<A> {
     /// A slice of the home.
     fn add_slice(&mut self, slice: u8) -> Result<(), NoMemory>
         requires { slice < 255 }
-        ensures text { OnOk result
-            (self.new.text.items
-            ≡ self.old.text.items ++ slice_heading self.old.layout self.old.bottom slice) }
-        ensures layout { self.new.layout ≡ self.old.layout }
-        ensures bottom { self.new.bottom ≡ self.old.bottom }
     {
         let area = SliceBox {
             slice,
@@ -420,15 +282,7 @@ impl<A: Allocator> Picture<A> {
     }
 
     /// The slices of the home.
-    fn add_slices(&mut self) -> Result<(), NoMemory>
-        ensures text { OnOk result
-            (self.new.text.items
-            ≡ self.old.text.items
-            ++ flat_map (slice_heading self.old.layout self.old.bottom)
-            (range_with_len 0 self.old.layout.slices)) }
-        ensures layout { self.new.layout ≡ self.old.layout }
-        ensures bottom { self.new.bottom ≡ self.old.bottom }
-    {
+    fn add_slices(&mut self) -> Result<(), NoMemory> {
         for slice in 0..self.layout.slices {
             self.add_slice(slice)?;
         }
@@ -436,12 +290,7 @@ impl<A: Allocator> Picture<A> {
     }
 
     /// The lifeline of an agent, or of the home.
-    fn add_lifeline(&mut self, agent: Option<Agent>, x: u64) -> Result<(), NoMemory>
-        ensures text { OnOk result
-            (self.new.text.items ≡ self.old.text.items ++ lifeline_of self.old.bottom agent x) }
-        ensures layout { self.new.layout ≡ self.old.layout }
-        ensures bottom { self.new.bottom ≡ self.old.bottom }
-    {
+    fn add_lifeline(&mut self, agent: Option<Agent>, x: u64) -> Result<(), NoMemory> {
         let life = Lifeline {
             agent,
             x,
@@ -452,14 +301,7 @@ impl<A: Allocator> Picture<A> {
     }
 
     /// The lifelines of the agents.
-    fn add_lifelines(&mut self) -> Result<(), NoMemory>
-        ensures text { OnOk result
-            (self.new.text.items
-            ≡ self.old.text.items
-            ++ flat_map (lifeline_at self.old.bottom) (range_with_len 0 self.old.layout.agents)) }
-        ensures layout { self.new.layout ≡ self.old.layout }
-        ensures bottom { self.new.bottom ≡ self.old.bottom }
-    {
+    fn add_lifelines(&mut self) -> Result<(), NoMemory> {
         for agent in 0..self.layout.agents {
             self.add_lifeline(Some(Agent(agent)), agent_x(Agent(agent)))?;
         }
@@ -467,13 +309,7 @@ impl<A: Allocator> Picture<A> {
     }
 
     /// The head of the text: its size, its ground, and its style.
-    fn add_head(&mut self) -> Result<(), NoMemory>
-        ensures text { OnOk result
-            (self.new.text.items
-            ≡ self.old.text.items ++ head_text self.old.layout self.old.bottom) }
-        ensures layout { self.new.layout ≡ self.old.layout }
-        ensures bottom { self.new.bottom ≡ self.old.bottom }
-    {
+    fn add_head(&mut self) -> Result<(), NoMemory> {
         let sheet = Sheet {
             width: self.layout.width(),
             height: u64::from(self.bottom) + 40,
@@ -484,13 +320,7 @@ impl<A: Allocator> Picture<A> {
     }
 
     /// The frame: the home's slices, its lifeline, and those of the agents.
-    fn add_frame(&mut self) -> Result<(), NoMemory>
-        ensures text { OnOk result
-            (self.new.text.items
-            ≡ self.old.text.items ++ frame_text self.old.layout self.old.bottom) }
-        ensures layout { self.new.layout ≡ self.old.layout }
-        ensures bottom { self.new.bottom ≡ self.old.bottom }
-    {
+    fn add_frame(&mut self) -> Result<(), NoMemory> {
         let home = self.layout.home_x();
         self.add_slices()?;
         self.add_lifeline(None, home)?;
@@ -506,11 +336,7 @@ pub(crate) fn svg_of<A: Allocator>(
     title: &[Vec<u8, A>],
     bottom: u32,
     rows: &[CommandRow<A>],
-) -> Result<Vec<u8, A>, NoMemory>
-    ensures { IfOk result
-        (λ text. text.items
-        ≡ svg_of layout (map (λ heading. heading.items) title.now) bottom (map row_seen rows.now)) }
-{
+) -> Result<Vec<u8, A>, NoMemory> {
     let mut picture = Picture {
         layout,
         bottom,

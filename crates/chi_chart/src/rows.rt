@@ -1,14 +1,5 @@
 //! The rows of a chart: its commands, played one after the other.
 
-ghost use Rattle.std.specs.Prelude.{◌≡◌, ◌+◌, ◌*◌, ◌++◌, IfOk, OnOk, map};
-ghost use Rattle.std.specs.Option.{option_map};
-ghost use Rattle.chi_script.specs.Checks.{line_of_check};
-ghost use Rattle.chi_script.specs.Files.{lines_of};
-ghost use Rattle.chi_chart.specs.Headings.{headings_in, lines_behind};
-ghost use Rattle.chi_chart.specs.Steps.{line_of_command, seen_line};
-ghost use Rattle.chi_chart.specs.Rows.{below_headings, below_row, below_mark, below_marks, below_wanted, is_in_part, is_line, is_repeated, names_height, next_place, other_wanted, said_in, shown_rows};
-ghost use Rattle.chi_chart.specs.Played.{DrawnChart, IsPlayed, IsDrawnRun, row_seen};
-
 use crate::headings::LeftLines;
 use crate::marks::{Mark, marks_between};
 use chi_flit::{Line, NoMemory};
@@ -72,16 +63,12 @@ pub(crate) struct Rows<A: Allocator> {
 }
 
 /// So much lower. Refused where no number says it.
-pub(crate) fn lower(y: u32, by: u32) -> Result<u32, NoMemory>
-    ensures { IfOk result (λ low. low ≡ y + by) }
-{
+pub(crate) fn lower(y: u32, by: u32) -> Result<u32, NoMemory> {
     y.checked_add(by).ok_or(NoMemory)
 }
 
 /// Where the next band of a row begins, behind a mark.
-pub(crate) fn below_mark(y: u32, mark: &Mark) -> Result<u32, NoMemory>
-    ensures { IfOk result (λ low. low ≡ below_mark y mark.now) }
-{
+pub(crate) fn below_mark(y: u32, mark: &Mark) -> Result<u32, NoMemory> {
     match mark {
         Mark::Sent(..) => lower(y, 16),
         Mark::Turned(..) | Mark::Taken(_) | Mark::Serves(..) => Ok(y),
@@ -89,16 +76,12 @@ pub(crate) fn below_mark(y: u32, mark: &Mark) -> Result<u32, NoMemory>
 }
 
 /// How high the names are, where they are repeated.
-pub(crate) fn names_height(names: bool) -> u32
-    ensures { result ≡ names_height names }
-{
+pub(crate) fn names_height(names: bool) -> u32 {
     if names { 24 } else { 0 }
 }
 
 /// Where a command begins, below the names and so many headings.
-pub(crate) fn below_headings(y: u32, names: bool, count: usize) -> Result<u32, NoMemory>
-    ensures { IfOk result (λ low. low ≡ below_headings y names count) }
-{
+pub(crate) fn below_headings(y: u32, names: bool, count: usize) -> Result<u32, NoMemory> {
     let names = lower(y, names_height(names))?;
     let high = count.checked_mul(18).ok_or(NoMemory)?;
     match u32::try_from(high) {
@@ -108,9 +91,7 @@ pub(crate) fn below_headings(y: u32, names: bool, count: usize) -> Result<u32, N
 }
 
 /// Where they begin behind all marks.
-pub(crate) fn below_marks(y: u32, marks: &[Mark]) -> Result<u32, NoMemory>
-    ensures { IfOk result (λ low. low ≡ below_marks y marks.now) }
-{
+pub(crate) fn below_marks(y: u32, marks: &[Mark]) -> Result<u32, NoMemory> {
     let mut low = y;
     for mark in marks {
         low = below_mark(low, mark)?;
@@ -119,9 +100,7 @@ pub(crate) fn below_marks(y: u32, marks: &[Mark]) -> Result<u32, NoMemory>
 }
 
 /// The line that a command names.
-pub(crate) fn line_of(command: Command) -> Option<Line>
-    ensures { result ≡ line_of_command command }
-{
+pub(crate) fn line_of(command: Command) -> Option<Line> {
     match command {
         Command::Show { line } | Command::Flits { line, .. } | Command::Arrive { line, .. } => {
             Some(line)
@@ -136,9 +115,7 @@ pub(crate) fn line_of(command: Command) -> Option<Line>
 }
 
 /// Whether a command that names this line, or none, is shown where one line alone may be wanted.
-fn is_line(only: Option<Line>, named: Option<Line>) -> bool
-    ensures { result ≡ is_line only named }
-{
+fn is_line(only: Option<Line>, named: Option<Line>) -> bool {
     match (only, named) {
         (Some(only), Some(line)) => only.0 == line.0,
         _ => true,
@@ -147,17 +124,13 @@ fn is_line(only: Option<Line>, named: Option<Line>) -> bool
 
 impl ChartPart {
     /// Whether the command of this number, which names this line, or none, is shown.
-    fn has(&self, number: u64, named: Option<Line>) -> bool
-        ensures { result ≡ is_in_part self.now number named }
-    {
+    fn has(&self, number: u64, named: Option<Line>) -> bool {
         is_line(self.line, named) && number >= self.first && number <= self.last
     }
 }
 
 /// An answer without its line end.
-pub(crate) fn said_in(answer: &[u8]) -> &[u8]
-    ensures { result.now ≡ said_in answer.now }
-{
+pub(crate) fn said_in(answer: &[u8]) -> &[u8] {
     &answer[..answer.len().saturating_sub(1)]
 }
 
@@ -166,11 +139,7 @@ fn other_wanted<A: Allocator>(
     alloc: A,
     wanted: Option<&[u8]>,
     answer: &[u8],
-) -> Result<Option<Vec<u8, A>>, NoMemory>
-    ensures { IfOk result
-        (λ other. option_map (λ text. text.items) other
-        ≡ other_wanted (option_map (λ text. text.now) wanted.entry) answer.now) }
-{
+) -> Result<Option<Vec<u8, A>>, NoMemory> {
     let Some(wanted) = wanted else {
         return Ok(None);
     };
@@ -183,9 +152,7 @@ fn other_wanted<A: Allocator>(
 }
 
 /// The line as it is shown, where there is one of that number.
-fn seen_line<A: Allocator>(system: &System<A>, line: Option<Line>) -> Option<LineView>
-    ensures { result ≡ seen_line system.now.home line }
-{
+fn seen_line<A: Allocator>(system: &System<A>, line: Option<Line>) -> Option<LineView> {
     match system.view(line?) {
         Ok(view) => Some(view),
         Err(_) => None,
@@ -194,9 +161,7 @@ fn seen_line<A: Allocator>(system: &System<A>, line: Option<Line>) -> Option<Lin
 
 impl RowPlace {
     /// Whether the names are repeated above the row.
-    fn is_repeated(self) -> bool
-        ensures { result ≡ is_repeated self.drawn }
-    {
+    fn is_repeated(self) -> bool {
         self.drawn != 0 && self.drawn % 40 == 0
     }
 }
@@ -208,10 +173,7 @@ fn play<A: Allocator, B: Allocator + Copy>(
     check: &Check,
     place: RowPlace,
     headings: Vec<Vec<u8, B>, B>,
-) -> Result<CommandRow<B>, NoMemory>
-    ensures { IfOk result (λ row. IsPlayed system.old system.new (line_of_check check.now) place
-        (map (λ heading. heading.items) headings.items) (row_seen row)) }
-{
+) -> Result<CommandRow<B>, NoMemory> {
     let line = line_of(check.command);
     let before = seen_line(system, line);
     let reply = answer(system, check.command);
@@ -237,10 +199,7 @@ fn play<A: Allocator, B: Allocator + Copy>(
 }
 
 /// Where what tells the wanted answer ends, where it is told.
-fn below_wanted<A: Allocator>(y: u32, wanted: &Option<Vec<u8, A>>) -> Result<u32, NoMemory>
-    ensures { IfOk result
-        (λ low. low ≡ below_wanted y (option_map (λ text. text.items) wanted.now)) }
-{
+fn below_wanted<A: Allocator>(y: u32, wanted: &Option<Vec<u8, A>>) -> Result<u32, NoMemory> {
     match wanted {
         None => Ok(y),
         Some(_) => lower(y, 16),
@@ -248,29 +207,19 @@ fn below_wanted<A: Allocator>(y: u32, wanted: &Option<Vec<u8, A>>) -> Result<u32
 }
 
 /// Where the next row begins.
-fn below_row<A: Allocator>(row: &CommandRow<A>) -> Result<u32, NoMemory>
-    ensures { IfOk result (λ low. low ≡ below_row (row_seen row.now)) }
-{
+fn below_row<A: Allocator>(row: &CommandRow<A>) -> Result<u32, NoMemory> {
     let band = lower(below_marks(row.y, &row.marks)?, 20)?;
     below_wanted(band, &row.wanted)
 }
 
 /// One more. Refused where no number says it.
-fn next(number: u64) -> Result<u64, NoMemory>
-    ensures { IfOk result (λ more. more ≡ number + 1) }
-{
+fn next(number: u64) -> Result<u64, NoMemory> {
     number.checked_add(1).ok_or(NoMemory)
 }
 
 impl<A: Allocator> Rows<A> {
     /// Puts a row behind the others, where it is shown.
-    fn add(&mut self, shown: bool, row: CommandRow<A>) -> Result<(), NoMemory>
-        ensures rows { OnOk result
-            (map row_seen self.new.rows.items
-            ≡ map row_seen self.old.rows.items ++ shown_rows shown (row_seen row)) }
-        ensures place { OnOk result
-            (self.new.place ≡ next_place shown self.old.place (row_seen row)) }
-    {
+    fn add(&mut self, shown: bool, row: CommandRow<A>) -> Result<(), NoMemory> {
         self.place.number = next(self.place.number)?;
         if shown {
             self.place.drawn = next(self.place.drawn)?;
@@ -292,16 +241,7 @@ pub(crate) fn rows_of<A: Allocator + Copy>(
     part: &ChartPart,
     lines: &[u8],
     top: u32,
-) -> Result<Rows<A>, NoMemory>
-    ensures { IfOk result
-        (λ rows. IsDrawnRun (record {
-          config = config.now;
-          checks = map line_of_check checks.now;
-          part = part.now;
-          lines = lines_of lines.now;
-          top = top;
-        }) (map row_seen rows.rows.items) rows.place.y) }
-{
+) -> Result<Rows<A>, NoMemory> {
     let mut system = System::new(alloc, config)?;
     let mut left = LeftLines { bytes: lines };
     let mut rows = Rows {

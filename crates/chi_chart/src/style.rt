@@ -1,8 +1,5 @@
 //! How a chart looks.
 
-ghost use Rattle.std.specs.Prelude.{◌≡◌};
-ghost use Rattle.chi_chart.specs.Style.{style};
-
 /// Its colours on light and on dark ground, its fonts, and the ends of its arrows.
 /// Source: `docs/FORMATS.md`, "Charts".
 const STYLE: &str = "<style>\n\
@@ -45,9 +42,6 @@ const STYLE: &str = "<style>\n\
     stroke:context-stroke'/></marker></defs>\n";
 
 /// Its bytes.
-#[tactic(auto, unfolding(crate::specs::Style::style))]
-pub(crate) fn style() -> &'static [u8]
-    ensures { result.now ≡ style }
-{
+pub(crate) fn style() -> &'static [u8] {
     STYLE.as_bytes()
 }

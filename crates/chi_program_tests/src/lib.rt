@@ -1,10 +1,8 @@
-//! Tests of the program's parts: replays from an input to an output, command lines, and the ways to stop.
+//! Tests of the program's parts: replays from an input to an output, and the ways to stop.
 //!
 //! Source: `docs/FORMATS.md`, "The program".
 #![tactic(auto)]
 
-#[cfg(test)]
-mod command_lines;
 #[cfg(test)]
 mod comparison;
 #[cfg(test)]

@@ -5,10 +5,23 @@ use chi_program::{ArgFault, Stop, arguments};
 use chi_script::Fault;
 use std::alloc::AllocError;
 
+/// Command lines without a file, with a number outside its range, and with an option twice.
+const BAD: [&[&str]; 3] = [
+    &["chihome", "replay"],
+    &["chihome", "storm", "F", "--turns", "0"],
+    &["chihome", "storm", "F", "--seed", "1", "--seed", "2"],
+];
+
+#[test]
+fn bad_arguments_are_told(rt: HostRuntime) {
+    for words in BAD {
+        let bad = arguments(rt.alloc(), words).err();
+        same(&rt, bad, Some(ArgFault::Bad));
+    }
+}
+
 #[test]
 fn a_stop_is_a_line_and_a_status(rt: HostRuntime) -> Result<(), AllocError> {
-    let bad = arguments(rt.alloc(), &["chihome", "replay"]).err();
-    same(&rt, bad, Some(ArgFault::Bad));
     let stops = [
         (Stop::from(ArgFault::Bad), 4, "chihome: bad arguments"),
         (Stop::from(ArgFault::NoMemory), 3, "chihome: out of memory"),

@@ -59,7 +59,7 @@ drawn_front line sizes options old new result is front at = ((front at).0, (fron
 
 draw_fault : (line : List ℕ) (sizes : Sizes) (options : DrawOptions) (fault : Fault) → line_header line ≡ Some sizes → IsDrawFault line sizes options fault → NoStimulus line options fault
 draw_fault line sizes options NoMemory heads is = tt
-draw_fault line sizes options TooLarge heads is = (sizes, heads, is)
+draw_fault line sizes options TooLarge heads is = (sizes, heads)
 draw_fault line sizes options Write heads is = tt
 draw_fault line sizes options (BadHeader number) heads is = absurd is
 draw_fault line sizes options (BadCommand number) heads is = absurd is

@@ -19,7 +19,6 @@ use Rattle.chi_replay.specs.Turns.{machine_at_start}
 use Rattle.chi_replay.proofs.AnswerLines.{one_each}
 use Rattle.chi_stimulus.specs.declared.options.DrawOptions.{DrawOptions}
 use Rattle.chi_stimulus.specs.Stimulus.{HasCommands, IsNoRefusal, IsStimulus}
-use Rattle.chi_stimulus.specs.Drafts.{IsDrawnBy}
 use Rattle.chi_stimulus.specs.SecondPass.{IsDrawn, is_plain, is_told}
 
 abbrev wanted_of : List CheckLine → List (Option (List ℕ))
@@ -102,8 +101,8 @@ same_checks file a b cs ds e f = ap checks_read (sym e ∙ f)
 
 -- all of it together
 drawn_of : (header : Sizes) (options : DrawOptions) (file report line : List ℕ) (read : Sizes) (checks : List CheckLine) (is : IsCheckReport file true report)
-    → check_file_of file ≡ Ok (read, checks) → read ≡ header → HasCommands options (length checks) → AreTold (nat_lt 0 options.wild) checks → line_header line ≡ Some header → IsDrawnBy line header options file → IsStimulus line options file
-drawn_of header options file report line read checks is good same count told says drawn =
+    → check_file_of file ≡ Ok (read, checks) → read ≡ header → HasCommands options (length checks) → AreTold (nat_lt 0 options.wild) checks → line_header line ≡ Some header → IsStimulus line options file
+drawn_of header options file report line read checks is good same count told says =
     let heads : is.answered.header ≡ read = same_header file is.answered.header read is.checks checks is.answered.good good in
     let both : is.checks ≡ checks = same_checks file is.answered.header read is.checks checks is.answered.good good in
     let as_many : length is.answers ≡ length is.checks = ap length is.answered.lines ∙ (one_each (machine_at_start is.answered.header) (commands_in is.checks) is.answered.replayed.answers ∙ length-map is.checks (λ (check : CheckLine). check.command)) in
@@ -117,7 +116,6 @@ drawn_of header options file report line read checks is good same count told say
       told = answers_are;
       count = subst (λ (cs : List CheckLine). HasCommands options (length cs)) (sym both) count;
       enabled = λ none. no_refusals is.checks is.answers (subst (λ (w : ℕ). AreTold (nat_lt 0 w) is.checks) none are) answers_are;
-      drawn = subst (λ (h : Sizes). IsDrawnBy line h options file) (sym same ∙ sym heads) drawn;
     }
 
 -- what is so of the checks that were read is so of their lines
@@ -126,9 +124,9 @@ of_read wild checks are = All-map (IsTold wild) line_of_check checks are
 
 drawn_if : (hold : Bool) (header : Sizes) (options : DrawOptions) (file : List ℕ) (read : Sizes) (checks : List Check) → check_file_of file ≡ Ok (read, map line_of_check checks) → read ≡ header → HasCommands options (length checks) → All (λ check. is_told (nat_lt 0 options.wild) (line_of_check check).wanted ≡ true) checks
     → (report : List ℕ) × IsCheckReport file hold report → IsTrue hold → IsDrawn header options file
-drawn_if true header options file read checks good same count told found e line says drawn =
-    drawn_of header options file found.0 line read (map line_of_check checks) found.1 good same (subst (λ (n : ℕ). HasCommands options n) (sym (length-map checks line_of_check)) count) (of_read (nat_lt 0 options.wild) checks told) says drawn
-drawn_if false header options file read checks good same count told found e line says drawn = absurd (cc (e))
+drawn_if true header options file read checks good same count told found e line says =
+    drawn_of header options file found.0 line read (map line_of_check checks) found.1 good same (subst (λ (n : ℕ). HasCommands options n) (sym (length-map checks line_of_check)) count) (of_read (nat_lt 0 options.wild) checks told) says
+drawn_if false header options file read checks good same count told found e line says = absurd (cc (e))
 
 pub is_drawn : {E : Type 0} (result : Result Bool E) (fits : Bool) (header : Sizes) (options : DrawOptions) (file : List ℕ) (read : Sizes) (checks : List Check) → check_file_of file ≡ Ok (read, map line_of_check checks) → fits ≡ true
     → (fits ≡ true → read ≡ header) → (fits ≡ true → HasCommands options (length checks)) → (fits ≡ true → All (λ check. is_told (nat_lt 0 options.wild) (line_of_check check).wanted ≡ true) checks)

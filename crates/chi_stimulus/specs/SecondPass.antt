@@ -7,8 +7,7 @@ use Rattle.chi_script.specs.declared.faults.Fault.TheVariants as faults
 use Rattle.chi_flit.specs.Config.{Sizes}
 use Rattle.chi_script.specs.Headers.{line_header}
 use Rattle.chi_stimulus.specs.declared.options.DrawOptions.{DrawOptions}
-use Rattle.chi_stimulus.specs.Drafts.{IsDrawnBy}
-use Rattle.chi_stimulus.specs.Stimulus.{IsDrawnTooLarge, IsStimulus}
+use Rattle.chi_stimulus.specs.Stimulus.{IsStimulus}
 
 -- an answer that begins with o, as no refusal does
 abbrev pub is_plain : List ℕ → Bool
@@ -20,9 +19,9 @@ abbrev pub is_told : Bool → Option (List ℕ) → Bool
 is_told wild None = false
 is_told wild (Some answer) = wild || is_plain answer
 
--- what is found of a text: it is as it should be, for each line that says these sizes and that it was drawn for
+-- what is found of a text: it is as it should be, for each line that says these sizes
 abbrev pub IsDrawn : Sizes → DrawOptions → List ℕ → Type 0
-IsDrawn header options file = (line : List ℕ) → line_header line ≡ Some header → IsDrawnBy line header options file → IsStimulus line options file
+IsDrawn header options file = (line : List ℕ) → line_header line ≡ Some header → IsStimulus line options file
 
 -- the line says these sizes
 abbrev pub SaysSizes : List ℕ → Sizes → Type 0
@@ -51,7 +50,7 @@ IsOutputFault faults.Read = ⊥
 abbrev pub IsDrawFault : List ℕ → Sizes → DrawOptions → Fault → Type 0
 IsDrawFault line header options faults.NoMemory = Unit {0}
 IsDrawFault line header options faults.Write = Unit {0}
-IsDrawFault line header options faults.TooLarge = IsDrawnTooLarge line header options
+IsDrawFault line header options faults.TooLarge = Unit {0}
 IsDrawFault line header options (faults.BadHeader number) = ⊥
 IsDrawFault line header options (faults.BadCommand number) = ⊥
 IsDrawFault line header options (faults.MissingNewline number) = ⊥

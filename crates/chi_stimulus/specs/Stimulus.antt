@@ -1,18 +1,16 @@
 -- What a drawn file is, and what is written (docs/FORMATS.md, "Drawn files").
-use Rattle.std.specs.Prelude.{◌≡◌, ◌≢◌, ℕ, ◌/◌, ◌<◌, ◌≤◌, ◌⊎◌, All, Bool, true, false, List, Option, Some, None, length, map}
+use Rattle.std.specs.Prelude.{◌≡◌, ◌≢◌, ℕ, ◌≤◌, All, Bool, true, false, List, Option, Some, None, length, map}
 use Rattle.std.specs.Io.KnownBytes.{Appends, Keeps}
 use Rattle.chi_flit.specs.declared.refusal.Refusal.{Refusal}
 use Rattle.chi_replay.specs.Replies.{refused_text}
 use Rattle.chi_script.specs.declared.faults.Fault.{Fault}
 use Rattle.chi_script.specs.declared.faults.Fault.TheVariants as faults
 use Rattle.chi_flit.specs.Config.{Sizes}
-use Rattle.chi_script.specs.CheckFiles.{most_check_bytes}
 use Rattle.chi_script.specs.Checks.{CheckLine}
 use Rattle.chi_script.specs.Headers.{line_header}
 use Rattle.chi_script.specs.Devices.{AppendsFront}
 use Rattle.chi_replay.specs.Checks.{IsAnswered}
 use Rattle.chi_stimulus.specs.declared.options.DrawOptions.{DrawOptions}
-use Rattle.chi_stimulus.specs.Drafts.{IsDrawnBy}
 
 -- an answer that tells no refusal
 abbrev pub IsNoRefusal : List ℕ → Type 0
@@ -25,7 +23,7 @@ pub record HasCommands (options : DrawOptions) (count : ℕ) : Type 0 where
 
 -- A good check file of the sizes that the line says. Its commands give just the answers that stand behind them, on
 -- a new node of that size and where the tracker answers so; and where none may be any command, none of them is
--- refused. It is a function of the line, the options, and the tracker's answers to what was tried.
+-- refused.
 pub record IsStimulus (line : List ℕ) (options : DrawOptions) (file : List ℕ) : Type 0 where
   pub checks : List CheckLine
   pub answers : List (List ℕ)
@@ -34,7 +32,6 @@ pub record IsStimulus (line : List ℕ) (options : DrawOptions) (file : List ℕ
   pub told : map (λ check. check.wanted) checks ≡ map Some answers
   pub count : HasCommands options (length checks)
   pub enabled : options.wild ≡ 0 → All IsNoRefusal answers
-  pub drawn : IsDrawnBy line answered.header options file
 
 -- one such file was written, no more; or, where it is told that none was, nothing
 abbrev pub WritesStimulus : List ℕ → DrawOptions → Option (List ℕ) → Option (List ℕ) → Bool → Type 0
@@ -45,17 +42,12 @@ WritesStimulus line options old new false = Keeps old new
 abbrev pub WritesStimulusFront : List ℕ → DrawOptions → Option (List ℕ) → Option (List ℕ) → Type 0
 WritesStimulusFront line options old new = (file : List ℕ) × IsStimulus line options file × AppendsFront old new file
 
--- there are more commands than lines of 14 bytes in a check file, or the file that is drawn is larger than one may be
-abbrev pub IsDrawnTooLarge : List ℕ → Sizes → DrawOptions → Type 0
-IsDrawnTooLarge line header options =
-    (most_check_bytes / 14 < options.commands) ⊎ ((file : List ℕ) × IsDrawnBy line header options file × (most_check_bytes < length file))
-
--- why no file was written: the line is no header; memory ran out; the file would be larger than a check file may be; or
--- the output failed
+-- why no file was written: the line is no header; memory ran out; the line is a header, and the file would be larger than
+-- a check file may be; or the output failed
 abbrev pub NoStimulus : List ℕ → DrawOptions → Fault → Type 0
 NoStimulus line options (faults.BadHeader number) = (line_header line ≡ None) × (number ≡ 1)
 NoStimulus line options faults.NoMemory = Unit {0}
-NoStimulus line options faults.TooLarge = (header : Sizes) × (line_header line ≡ Some header) × IsDrawnTooLarge line header options
+NoStimulus line options faults.TooLarge = (header : Sizes) × (line_header line ≡ Some header)
 NoStimulus line options faults.Write = Unit {0}
 NoStimulus line options (faults.BadCommand number) = ⊥
 NoStimulus line options (faults.MissingNewline number) = ⊥

@@ -1,12 +1,5 @@
 //! A node, and the text of the commands that were drawn for it so far.
 
-ghost use Rattle.std.specs.Prelude.{◌≡◌, [], ◌∷◌, ◌++◌, IfOk, OnOk, is_none, string_bytes};
-ghost use Rattle.chi_replay.specs.Replies.{refusal_in};
-ghost use Rattle.chi_replay.specs.Session.{PlaysTurn};
-ghost use Rattle.chi_stimulus.specs.Drafts.{adding, adding_any, adding_enabled, for_each, keeping, proposing, seeking, trying};
-ghost use Rattle.chi_stimulus.specs.Goes.{Goes, IsBlank, IsPlan, with_note};
-ghost use Rattle.chi_stimulus.specs.Lots.{lot_now, past_lot, past_word, word_now};
-
 use crate::operands::Operands;
 use crate::plan::Plan;
 use crate::proposals::{any_command, command_by};
@@ -17,7 +10,6 @@ use chi_replay::{Reply, answer};
 use chi_script::Command;
 use chi_slice::Config;
 use std::alloc::Allocator;
-use std::marker::Model;
 
 /// A node, and the text so far.
 #[derive(Drop)]
@@ -32,33 +24,13 @@ pub(crate) struct Drawing<A: Allocator> {
     done: bool,
 }
 
-impl<A: Allocator> Model for Drawing<A> {
-    ghost use Rattle.std.specs.Prelude.{string_bytes};
-    ghost use Rattle.chi_stimulus.specs.Goes.{DrawingState};
-
-    ghost Value = { DrawingState };
-
-    ghost view = { λ d.
-        record {
-          system = d.system;
-          words = d.words;
-          count = d.count;
-          text = string_bytes d.text;
-          done = d.done;
-        } };
-}
-
 /// Whether a command isn't refused.
-fn is_enabled(reply: &Reply) -> bool
-    ensures { result ≡ is_none (refusal_in reply.now) }
-{
+fn is_enabled(reply: &Reply) -> bool {
     reply.refusal().is_none()
 }
 
 /// A header and its line end.
-fn header_line<A: Allocator>(alloc: A, header: &str) -> Result<String<A>, NoMemory>
-    ensures { IfOk result (λ text. string_bytes text ≡ header.now ++ (10 ∷ [])) }
-{
+fn header_line<A: Allocator>(alloc: A, header: &str) -> Result<String<A>, NoMemory> {
     let mut text = String::new(alloc);
     writeln!(text, "{header}")?;
     Ok(text)
@@ -71,9 +43,7 @@ impl<A: Allocator + Copy> Drawing<A> {
         header: &str,
         config: &Config,
         seed: u64,
-    ) -> Result<Drawing<A>, NoMemory>
-        ensures { IfOk result (λ drawing. IsBlank header.now config.now seed drawing) }
-    {
+    ) -> Result<Drawing<A>, NoMemory> {
         let system = System::new(alloc, config)?;
         let text = header_line(alloc, header)?;
         Ok(Drawing {
@@ -88,61 +58,42 @@ impl<A: Allocator + Copy> Drawing<A> {
 
 impl<A: Allocator> Drawing<A> {
     /// The text so far.
-    pub(crate) fn into_text(self) -> String<A>
-        ensures { string_bytes result ≡ self.text }
-    {
+    pub(crate) fn into_text(self) -> String<A> {
         self.text
     }
 
     /// Whether a command was kept since this was last cleared.
-    pub(crate) fn is_done(&self) -> bool
-        ensures { result ≡ self.now.done }
-    {
+    pub(crate) fn is_done(&self) -> bool {
         self.done
     }
 
     /// Makes it so.
-    pub(crate) fn set_done(&mut self, done: bool)
-        ensures { self.new ≡ record self.old { done = done } }
-    {
+    pub(crate) fn set_done(&mut self, done: bool) {
         self.done = done;
     }
 
     /// How many commands there are.
-    fn count(&self) -> u64
-        ensures { result ≡ self.now.count }
-    {
+    fn count(&self) -> u64 {
         self.count
     }
 
     /// The next word.
-    fn word(&mut self) -> u32
-        ensures word { result ≡ word_now self.old.words }
-        ensures place { self.new ≡ record self.old { words = past_word self.old.words } }
-    {
+    fn word(&mut self) -> u32 {
         self.words.next()
     }
 
     /// The next five words.
-    fn lot(&mut self) -> Lot
-        ensures lot { result ≡ lot_now self.old.words }
-        ensures place { self.new ≡ record self.old { words = past_lot self.old.words } }
-    {
+    fn lot(&mut self) -> Lot {
         self.words.lot()
     }
 
     /// Does the command, and tells its reply.
-    fn play(&mut self, command: &Command) -> Reply
-        ensures plays { PlaysTurn command.now self.old.system self.new.system result }
-        ensures same { self.new ≡ record self.old { system = self.new.system } }
-    {
+    fn play(&mut self, command: &Command) -> Reply {
         answer(&mut self.system, *command)
     }
 
     /// Puts the command behind the text, with the reply that it was given.
-    fn note(&mut self, command: &Command, reply: &Reply) -> Result<(), NoMemory>
-        ensures { OnOk result (self.new ≡ with_note command.now reply.now self.old) }
-    {
+    fn note(&mut self, command: &Command, reply: &Reply) -> Result<(), NoMemory> {
         write!(self.text, "{command} -> ")?;
         reply.print(&self.system, &mut self.text)?;
         self.count = self.count.wrapping_add(1);
@@ -150,17 +101,13 @@ impl<A: Allocator> Drawing<A> {
     }
 
     /// Does the command, which then stands in the text with its answer.
-    pub(crate) fn keep(&mut self, command: &Command) -> Result<(), NoMemory>
-        ensures { OnOk result (Goes (keeping command.now) self.old self.new) }
-    {
+    pub(crate) fn keep(&mut self, command: &Command) -> Result<(), NoMemory> {
         let reply = self.play(command);
         self.note(command, &reply)
     }
 
     /// The same where it isn't refused, and then one was kept; else nothing.
-    pub(crate) fn tries(&mut self, command: &Command) -> Result<(), NoMemory>
-        ensures { OnOk result (Goes (trying command.now) self.old self.new) }
-    {
+    pub(crate) fn tries(&mut self, command: &Command) -> Result<(), NoMemory> {
         let reply = self.play(command);
         if !is_enabled(&reply) {
             return Ok(());
@@ -171,21 +118,13 @@ impl<A: Allocator> Drawing<A> {
     }
 
     /// Puts a comment behind the text.
-    pub(crate) fn remark(&mut self, comment: &str) -> Result<(), NoMemory>
-        ensures { OnOk result
-            (self.new ≡ record self.old {
-              text = self.old.text ++ (comment.now ++ (10 ∷ []));
-            }) }
-    {
+    pub(crate) fn remark(&mut self, comment: &str) -> Result<(), NoMemory> {
         writeln!(self.text, "{comment}")?;
         Ok(())
     }
 
     /// Puts so many commands behind the text.
-    pub(crate) fn add_all(&mut self, plan: &Plan, commands: u64) -> Result<(), NoMemory>
-        requires { IsPlan plan.now }
-        ensures { OnOk result (Goes (for_each commands (λ _. adding plan.now)) self.old self.new) }
-    {
+    pub(crate) fn add_all(&mut self, plan: &Plan, commands: u64) -> Result<(), NoMemory> {
         for _ in 0..commands {
             self.add(plan)?;
         }
@@ -193,10 +132,7 @@ impl<A: Allocator> Drawing<A> {
     }
 
     /// Puts a command behind the text: any one, so many times in a hundred, and else one that is enabled.
-    pub(crate) fn add(&mut self, plan: &Plan) -> Result<(), NoMemory>
-        requires { IsPlan plan.now }
-        ensures { OnOk result (Goes (adding plan.now) self.old self.new) }
-    {
+    pub(crate) fn add(&mut self, plan: &Plan) -> Result<(), NoMemory> {
         if self.word() % 100 < u32::from(plan.wild) {
             self.add_any(plan)
         } else {
@@ -205,10 +141,7 @@ impl<A: Allocator> Drawing<A> {
     }
 
     /// Puts any command behind the text.
-    fn add_any(&mut self, plan: &Plan) -> Result<(), NoMemory>
-        requires { IsPlan plan.now }
-        ensures { OnOk result (Goes (adding_any plan.now) self.old self.new) }
-    {
+    fn add_any(&mut self, plan: &Plan) -> Result<(), NoMemory> {
         let lot = self.lot();
         let count = self.count();
         self.keep(&any_command(plan, &lot, count))
@@ -216,10 +149,7 @@ impl<A: Allocator> Drawing<A> {
 
     /// Puts an enabled command behind the text: of a verb by weight, else of any that is drawn, else a look, which is
     /// never refused.
-    fn add_enabled(&mut self, plan: &Plan) -> Result<(), NoMemory>
-        requires { IsPlan plan.now }
-        ensures { OnOk result (Goes (adding_enabled plan.now) self.old self.new) }
-    {
+    fn add_enabled(&mut self, plan: &Plan) -> Result<(), NoMemory> {
         self.set_done(false);
         self.seek(plan, false)?;
         self.seek(plan, true)?;
@@ -230,10 +160,7 @@ impl<A: Allocator> Drawing<A> {
     }
 
     /// Tries one proposal after the other, until one is kept.
-    fn seek(&mut self, plan: &Plan, even: bool) -> Result<(), NoMemory>
-        requires { IsPlan plan.now }
-        ensures { OnOk result (Goes (seeking plan.now even) self.old self.new) }
-    {
+    fn seek(&mut self, plan: &Plan, even: bool) -> Result<(), NoMemory> {
         for _ in 0..plan.tries {
             if self.is_done() {
                 return Ok(());
@@ -244,10 +171,7 @@ impl<A: Allocator> Drawing<A> {
     }
 
     /// Tries one proposal: of a verb by weight, or of each verb with one chance.
-    fn propose(&mut self, plan: &Plan, even: bool) -> Result<(), NoMemory>
-        requires { IsPlan plan.now }
-        ensures { OnOk result (Goes (proposing plan.now even) self.old self.new) }
-    {
+    fn propose(&mut self, plan: &Plan, even: bool) -> Result<(), NoMemory> {
         let lot = self.lot();
         match plan.weights.verb_by(even, lot.verb) {
             None => Ok(()),

@@ -1,7 +1,7 @@
 //! Stimulus: a check file of commands that are drawn at random, each with its answer.
 //!
-//! The text is a function of the arguments and of the tracker's answers (`drawn_file`). A second pass reads it, plays
-//! its commands once more, and compares; only a text that it finds good is handed out.
+//! A second pass reads the text, plays its commands once more, and compares; only a text that it finds good is handed out.
+//! No clause says which commands are drawn, nor how often: tests do (`tests/draw/run`).
 //!
 //! Source: `docs/FORMATS.md`, "Drawn files".
 #![tactic(auto)]

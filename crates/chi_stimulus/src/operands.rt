@@ -1,8 +1,5 @@
 //! Operands that are drawn.
 
-ghost use Rattle.std.specs.Prelude.{◌≡◌, ◌<◌, ◌≤◌, ◌%◌, length};
-ghost use Rattle.chi_stimulus.specs.Proposals.{kind_at, kind_by, near, near_operands_of, operands_at, operands_of};
-
 use crate::plan::Plan;
 use crate::weights::place_by;
 use crate::words::Lot;
@@ -19,9 +16,7 @@ pub(crate) struct Operands {
 }
 
 /// The kind of request of a number below 8.
-pub(crate) fn kind_at(number: u32) -> Kind
-    ensures { result ≡ kind_at number }
-{
+pub(crate) fn kind_at(number: u32) -> Kind {
     match number {
         0 => Kind::ReadNotSharedDirty,
         1 => Kind::ReadShared,
@@ -35,10 +30,7 @@ pub(crate) fn kind_at(number: u32) -> Kind
 }
 
 /// By a word, a kind of request, by the weights of the kinds; of kinds that all weigh 0 each has one chance.
-fn kind_by(weights: &[u16], word: u32) -> Kind
-    requires { length weights.now ≤ 23 }
-    ensures { result ≡ kind_by weights.now word }
-{
+fn kind_by(weights: &[u16], word: u32) -> Kind {
     match place_by(weights, word) {
         Some(place) => kind_in(place),
         None => kind_at(word % 8),
@@ -46,43 +38,33 @@ fn kind_by(weights: &[u16], word: u32) -> Kind
 }
 
 /// The kind of request at a place.
-fn kind_in(place: usize) -> Kind
-    ensures { result ≡ kind_at place }
-{
+fn kind_in(place: usize) -> Kind {
     match place {
         0..=7 => kind_at(place as u32),
         _ => Kind::WriteEvictFull,
     }
 }
 
-/// By a word, a number below the end.
-fn below(end: u8, word: u32) -> u8
-    requires { 0 < end }
-    ensures { result ≡ word % end }
-{
-    (word % u32::from(end)) as u8
+/// By a word, a number below the end; 0 where the end is 0.
+fn below(end: u8, word: u32) -> u8 {
+    match u32::from(end) {
+        0 => 0,
+        end => (word % end) as u8,
+    }
 }
 
 /// By a word, a number below the end, one of the two behind it, or 255.
-fn near(end: u8, word: u32) -> u8
-    requires { end < 254 }
-    ensures { result ≡ near end word }
-{
+fn near(end: u8, word: u32) -> u8 {
     if word % 32 == 0 {
         255
     } else {
-        below(end + 2, word / 32)
+        below(end.saturating_add(2), word / 32)
     }
 }
 
 impl Operands {
     /// Operands in their ranges.
-    pub(crate) fn new(plan: &Plan, lot: &Lot) -> Operands
-        requires agents { 0 < plan.now.agents }
-        requires lines { 0 < plan.now.lines }
-        requires types { 0 < plan.now.types }
-        ensures { result ≡ operands_of plan.now lot.now }
-    {
+    pub(crate) fn new(plan: &Plan, lot: &Lot) -> Operands {
         Operands {
             agent: below(plan.agents, lot.agent),
             line: below(plan.lines, lot.line),
@@ -93,11 +75,7 @@ impl Operands {
     }
 
     /// Operands near their ranges.
-    pub(crate) fn near(plan: &Plan, lot: &Lot) -> Operands
-        requires agents { plan.now.agents < 254 }
-        requires lines { plan.now.lines < 254 }
-        ensures { result ≡ near_operands_of plan.now lot.now }
-    {
+    pub(crate) fn near(plan: &Plan, lot: &Lot) -> Operands {
         Operands {
             agent: near(plan.agents, lot.agent),
             line: near(plan.lines, lot.line),
@@ -108,9 +86,7 @@ impl Operands {
     }
 
     /// An agent and a line alone.
-    pub(crate) fn at(agent: u8, line: u8) -> Operands
-        ensures { result ≡ operands_at agent line }
-    {
+    pub(crate) fn at(agent: u8, line: u8) -> Operands {
         Operands {
             agent,
             line,

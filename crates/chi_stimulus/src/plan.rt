@@ -1,9 +1,5 @@
 //! What stays the same while commands are drawn.
 
-ghost use Rattle.std.specs.Prelude.{◌≡◌};
-ghost use Rattle.chi_stimulus.specs.Drafts.{plan_of, types_in, weights_in};
-ghost use Rattle.chi_stimulus.specs.Goes.{IsPlan};
-
 use crate::options::DrawOptions;
 use crate::weights::Weights;
 use chi_flit::Profile;
@@ -32,9 +28,7 @@ pub(crate) struct Plan {
 }
 
 /// How many credit types a profile has.
-fn types_in(profile: Profile) -> u8
-    ensures { result ≡ types_in profile }
-{
+fn types_in(profile: Profile) -> u8 {
     match profile {
         Profile::Two => 2,
         Profile::Four => 4,
@@ -42,9 +36,7 @@ fn types_in(profile: Profile) -> u8
 }
 
 /// The weights that are given, or the usual ones.
-fn weights_in(weights: Option<Weights>) -> Weights
-    ensures { result ≡ weights_in weights }
-{
+fn weights_in(weights: Option<Weights>) -> Weights {
     match weights {
         Some(weights) => weights,
         None => Weights::usual(),
@@ -53,11 +45,7 @@ fn weights_in(weights: Option<Weights>) -> Weights
 
 impl Plan {
     /// The plan for a node of these sizes, by the options.
-    #[tactic(auto, using(crate::proofs::Drafted::is_plan))]
-    pub(crate) fn new(sizes: &Config, options: &DrawOptions) -> Plan
-        ensures is { result ≡ plan_of sizes.now options.now }
-        ensures ranges { IsPlan result }
-    {
+    pub(crate) fn new(sizes: &Config, options: &DrawOptions) -> Plan {
         Plan {
             agents: sizes.agents(),
             lines: sizes.lines(),

@@ -1,7 +1,6 @@
 //! The command of a verb and its operands.
 
-ghost use Rattle.std.specs.Prelude.{◌≡◌, ◌≢◌, ◌<◌};
-ghost use Rattle.chi_stimulus.specs.Proposals.{any_command, command_by, rest_verb, step_by};
+ghost use Rattle.std.specs.Prelude.{◌≢◌};
 
 use crate::operands::Operands;
 use crate::plan::Plan;
@@ -16,7 +15,6 @@ const VERBS: u32 = 23;
 fn act(operands: &Operands, step: Step) -> Command
     requires no_admit { step ≢ Step.Admit }
     requires no_retry { step ≢ Step.Retry }
-    ensures { result ≡ step_by operands.now step }
 {
     let agent = Agent(operands.agent);
     let line = Line(operands.line);
@@ -24,9 +22,7 @@ fn act(operands: &Operands, step: Step) -> Command
 }
 
 /// The command of a verb. A store writes the number of the commands before it.
-pub(crate) fn command_by(verb: Verb, operands: &Operands, count: u64) -> Command
-    ensures { result ≡ command_by verb operands.now count }
-{
+pub(crate) fn command_by(verb: Verb, operands: &Operands, count: u64) -> Command {
     let (agent, line) = (Agent(operands.agent), Line(operands.line));
     let credit = operands.credit;
     match verb {
@@ -57,20 +53,14 @@ pub(crate) fn command_by(verb: Verb, operands: &Operands, count: u64) -> Command
 }
 
 /// Any command.
-pub(crate) fn any_command(plan: &Plan, lot: &Lot, count: u64) -> Command
-    requires agents { plan.now.agents < 254 }
-    requires lines { plan.now.lines < 254 }
-    ensures { result ≡ any_command plan.now lot.now count }
-{
+pub(crate) fn any_command(plan: &Plan, lot: &Lot, count: u64) -> Command {
     let operands = Operands::near(plan, lot);
     let verb = Verb::at((lot.verb % VERBS) as usize).unwrap_or(Verb::Totals);
     command_by(verb, &operands, count)
 }
 
 /// The verb at a place among those that bring a request to rest.
-pub(crate) fn rest_verb(place: u8) -> Verb
-    ensures { result ≡ rest_verb place }
-{
+pub(crate) fn rest_verb(place: u8) -> Verb {
     match place {
         0 => Verb::Arrive,
         1 => Verb::Start,

@@ -1,8 +1,6 @@
 //! Bringing a node to rest: nothing is in flight, and each entry is free.
 
-ghost use Rattle.std.specs.Prelude.{◌+◌, ◌≤◌, OnOk};
-ghost use Rattle.chi_stimulus.specs.Drafts.{looking, looking_at, returning, round, rounding, settling, settling_if, walking, walking_agents, walking_line};
-ghost use Rattle.chi_stimulus.specs.Goes.{Goes};
+ghost use Rattle.std.specs.Prelude.{◌+◌, ◌≤◌};
 
 use crate::drawing::Drawing;
 use crate::operands::Operands;
@@ -14,17 +12,13 @@ use std::alloc::Allocator;
 
 impl<A: Allocator> Drawing<A> {
     /// Brings the node to rest, if that is asked for.
-    pub(crate) fn settle_if(&mut self, plan: &Plan, drain: bool) -> Result<(), NoMemory>
-        ensures { OnOk result (Goes (settling_if drain plan.now) self.old self.new) }
-    {
+    pub(crate) fn settle_if(&mut self, plan: &Plan, drain: bool) -> Result<(), NoMemory> {
         if drain { self.settle(plan) } else { Ok(()) }
     }
 
     /// Puts commands behind the text that bring the node to rest, round after round, until one keeps none but looks.
     /// Where that isn't reached a comment says so.
-    fn settle(&mut self, plan: &Plan) -> Result<(), NoMemory>
-        ensures { OnOk result (Goes (settling plan.now) self.old self.new) }
-    {
+    fn settle(&mut self, plan: &Plan) -> Result<(), NoMemory> {
         self.set_done(true);
         self.rounds(plan)?;
         if self.is_done() {
@@ -34,9 +28,7 @@ impl<A: Allocator> Drawing<A> {
     }
 
     /// Goes on round after round.
-    fn rounds(&mut self, plan: &Plan) -> Result<(), NoMemory>
-        ensures { OnOk result (Goes (rounding plan.now) self.old self.new) }
-    {
+    fn rounds(&mut self, plan: &Plan) -> Result<(), NoMemory> {
         for _ in 0..plan.rounds {
             if !self.is_done() {
                 return Ok(());
@@ -47,9 +39,7 @@ impl<A: Allocator> Drawing<A> {
     }
 
     /// One round: deliveries, starts and resends; and where there is none, looks, resends and cancels.
-    fn round(&mut self, plan: &Plan) -> Result<(), NoMemory>
-        ensures { OnOk result (Goes (round plan.now) self.old self.new) }
-    {
+    fn round(&mut self, plan: &Plan) -> Result<(), NoMemory> {
         self.set_done(false);
         self.walk(plan, 0, 11)?;
         if self.is_done() {
@@ -62,7 +52,6 @@ impl<A: Allocator> Drawing<A> {
     /// Tries so many of the commands to rest, from a place on, of each agent at each line.
     fn walk(&mut self, plan: &Plan, from: u8, count: u8) -> Result<(), NoMemory>
         requires { from + count ≤ 255 }
-        ensures { OnOk result (Goes (walking plan.now from count) self.old self.new) }
     {
         for line in 0..plan.lines {
             self.walk_line(plan, from, count, line)?;
@@ -73,7 +62,6 @@ impl<A: Allocator> Drawing<A> {
     /// The same at a line.
     fn walk_line(&mut self, plan: &Plan, from: u8, count: u8, line: u8) -> Result<(), NoMemory>
         requires { from + count ≤ 255 }
-        ensures { OnOk result (Goes (walking_line plan.now from count line) self.old self.new) }
     {
         for more in 0..count {
             self.walk_agents(plan, from + more, line)?;
@@ -82,9 +70,7 @@ impl<A: Allocator> Drawing<A> {
     }
 
     /// Tries one of the commands to rest, of each agent at a line.
-    fn walk_agents(&mut self, plan: &Plan, place: u8, line: u8) -> Result<(), NoMemory>
-        ensures { OnOk result (Goes (walking_agents plan.now place line) self.old self.new) }
-    {
+    fn walk_agents(&mut self, plan: &Plan, place: u8, line: u8) -> Result<(), NoMemory> {
         let verb = rest_verb(place);
         for agent in 0..plan.agents {
             let operands = Operands::at(agent, line);
@@ -94,9 +80,7 @@ impl<A: Allocator> Drawing<A> {
     }
 
     /// Lets each agent look, and give a credit of each type back.
-    fn look(&mut self, plan: &Plan) -> Result<(), NoMemory>
-        ensures { OnOk result (Goes (looking plan.now) self.old self.new) }
-    {
+    fn look(&mut self, plan: &Plan) -> Result<(), NoMemory> {
         for agent in 0..plan.agents {
             self.look_at(plan, agent)?;
         }
@@ -104,18 +88,14 @@ impl<A: Allocator> Drawing<A> {
     }
 
     /// The same of an agent.
-    fn look_at(&mut self, plan: &Plan, agent: u8) -> Result<(), NoMemory>
-        ensures { OnOk result (Goes (looking_at plan.now agent) self.old self.new) }
-    {
+    fn look_at(&mut self, plan: &Plan, agent: u8) -> Result<(), NoMemory> {
         let looks = Agent(agent);
         self.keep(&Command::See { agent: looks })?;
         self.give_back(plan, agent)
     }
 
     /// Gives a credit of each type back, where that isn't refused.
-    fn give_back(&mut self, plan: &Plan, agent: u8) -> Result<(), NoMemory>
-        ensures { OnOk result (Goes (returning plan.now agent) self.old self.new) }
-    {
+    fn give_back(&mut self, plan: &Plan, agent: u8) -> Result<(), NoMemory> {
         for ty in 0..plan.types {
             let credit = CreditType::numbered(ty);
             let agent = Agent(agent);

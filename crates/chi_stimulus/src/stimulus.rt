@@ -1,10 +1,9 @@
 //! From a header and options to the file that is written.
 
-ghost use Rattle.std.specs.Prelude.{◌≡◌, ◌≢◌, ◌+◌, ◌^◌, ◌<◌, ◌⊎◌, IfErr, IfOk, Err, None, Some, string_bytes};
+ghost use Rattle.std.specs.Prelude.{◌≡◌, ◌≢◌, ◌+◌, ◌^◌, ◌<◌, ◌⊎◌, IfErr, IfOk, Err, None, Some};
 ghost use Rattle.std.specs.Io.KnownBytes.{Keeps};
 ghost use Rattle.chi_script.specs.Headers.{line_header};
 ghost use Rattle.chi_replay.specs.Replays.{AtWrite};
-ghost use Rattle.chi_stimulus.specs.Drafts.{IsDrawnBy};
 ghost use Rattle.chi_stimulus.specs.SecondPass.{IsDrawFault, IsOutputFault, NoHeader, WritesDrawn, WritesDrawnFront};
 ghost use Rattle.chi_stimulus.specs.Stimulus.{NoStimulus, WritesStimulus, WritesStimulusFront};
 
@@ -26,10 +25,7 @@ fn drawn_text<A: Allocator + Copy>(
     line: &str,
     sizes: &Config,
     options: &DrawOptions,
-) -> Result<String<A>, NoMemory>
-    ensures { IfOk result
-        (λ text. IsDrawnBy line.now sizes.now options.now (string_bytes text)) }
-{
+) -> Result<String<A>, NoMemory> {
     let plan = Plan::new(sizes, options);
     let mut drawing = Drawing::new(alloc, line, sizes, options.seed)?;
     drawing.add_all(&plan, options.commands)?;
@@ -47,7 +43,6 @@ fn hand_out<A: Allocator + Copy, O: Output>(
     output: &mut O,
 ) -> Result<bool, Fault>
     requires writes { O.failures output.old + 1 < 2 ^ 64 }
-    requires drawn { IsDrawnBy line.now sizes.now options.now text.now }
     ensures ok { IfOk result
         (WritesDrawn line.now sizes.now options.now (O.written output.old) (O.written output.new)) }
     ensures write { AtWrite result (O.failures output.new ≡ O.failures output.old + 1) }
@@ -113,8 +108,8 @@ fn sizes_of<A: Allocator>(alloc: A, header: &str) -> Result<Config, Fault>
 ///
 /// At `Ok(true)` a good check file with that header was written, no more: it has so many commands, or at least so
 /// many with `drain`; on a new node of that size each gives the answer that stands behind it, under answers that
-/// the tracker may give; and where `wild` is 0 none of them is refused. It is `drawn_file` of the header, the options
-/// and the answers that the tracker gave to what was tried. At `Ok(false)` the text that was made is no such file, and
+/// the tracker may give; and where `wild` is 0 none of them is refused. No clause says which commands are drawn, nor how
+/// often. At `Ok(false)` the text that was made is no such file, and
 /// nothing was written: it is never seen. `BadHeader` of line 1 where the line is no header within the limits,
 /// `TooLarge` where there are more commands than a check file has room for lines of 14 bytes, or where the file that is
 /// drawn is larger than one may be, and `NoMemory` where memory runs out; nothing is written then. `Write` comes only

@@ -1,8 +1,5 @@
 //! What is wrong with a file of weights.
 
-ghost use Rattle.std.specs.Prelude.{Some};
-ghost use Rattle.chi_stimulus.specs.WeightFaults.{shown_or_none, weights_fault_text, wrong_words_text};
-
 use chi_script::ShownWord;
 use std::fmt;
 
@@ -40,8 +37,6 @@ pub struct WeightsFault<'a> {
 struct WordOrNone<'a>(&'a [u8]);
 
 impl fmt::Display for WordOrNone<'_> {
-    ghost output = { λ word. Some (shown_or_none word.0.now) };
-
     fn fmt<W: fmt::Write>(&self, f: &mut fmt::Formatter<W>) -> fmt::Result {
         if self.0.is_empty() {
             return f.write_str("no word");
@@ -52,8 +47,6 @@ impl fmt::Display for WordOrNone<'_> {
 }
 
 impl fmt::Display for WrongWords<'_> {
-    ghost output = { λ wrong. Some (wrong_words_text wrong) };
-
     fn fmt<W: fmt::Write>(&self, f: &mut fmt::Formatter<W>) -> fmt::Result {
         match self {
             WrongWords::Verb(word) => {
@@ -75,8 +68,6 @@ impl fmt::Display for WrongWords<'_> {
 }
 
 impl fmt::Display for WeightsFault<'_> {
-    ghost output = { λ fault. Some (weights_fault_text fault) };
-
     fn fmt<W: fmt::Write>(&self, f: &mut fmt::Formatter<W>) -> fmt::Result {
         let (line, wrong) = (self.line, self.wrong);
         write!(f, "chihome: line {line}: {wrong}")

@@ -1,13 +1,5 @@
 //! Files of weights: how often each verb is drawn, and each kind of request.
 
-ghost use Rattle.std.specs.Prelude.{◌≡◌, ◌==◌, ◌<◌, ◌≤◌, length, sum, IfErr, IfNone, IfOk, IfSome, None, OnOk, Some, false, true};
-ghost use Rattle.chi_script.specs.Files.{lines_of};
-ghost use Rattle.chi_script.specs.Verbs.{verb_named};
-ghost use Rattle.chi_script.specs.Words.{words_of};
-ghost use Rattle.chi_stimulus.specs.Proposals.{even_verb, place_by, place_from, verb_by, weighted_verb};
-ghost use Rattle.chi_stimulus.specs.WeightFaults.{IsWeightsFault, IsWrong};
-ghost use Rattle.chi_stimulus.specs.Weights.{drawn, first_wrong, is_weight_line, limited, usual_or_alike, weighed_named, weight_in, weight_of, weights_said, with_said, with_weight_line, without_others};
-
 use crate::kind_sets::KindSet;
 use crate::weight_faults::{WeightsFault, WrongWords};
 use chi_flit::Kind;
@@ -55,18 +47,13 @@ enum Weighed {
 ///
 /// Refused at the first line that is neither, or that no line end closes.
 /// Source: `docs/FORMATS.md`, "Drawn files".
-pub fn read_weights(bytes: &[u8]) -> Result<Weights, WeightsFault<'_>>
-    ensures ok { OnOk result (first_wrong 1 (lines_of bytes.now) ≡ None) }
-    ensures said { IfOk result
-        (λ weights. weights ≡ weights_said (lines_of bytes.now)) }
-    ensures err { IfErr result (IsWeightsFault (first_wrong 1 (lines_of bytes.now))) }
-{
+pub fn read_weights(bytes: &[u8]) -> Result<Weights, WeightsFault<'_>> {
     let mut weights = Weights {
         by_place: ALIKE,
         by_kind: [1; KINDS],
     };
     let mut rest = bytes;
-    let mut number = 1;
+    let mut number: usize = 1;
     while let Some((line, after)) = first_line(rest) {
         if let Some(wrong) = weights.add(line) {
             return Err(WeightsFault {
@@ -75,7 +62,7 @@ pub fn read_weights(bytes: &[u8]) -> Result<Weights, WeightsFault<'_>>
             });
         }
         rest = after;
-        number += 1;
+        number = number.saturating_add(1);
     }
     if rest.is_empty() {
         Ok(weights)
@@ -88,9 +75,7 @@ pub fn read_weights(bytes: &[u8]) -> Result<Weights, WeightsFault<'_>>
 }
 
 /// The weight that a word says.
-fn weight_in(word: &[u8]) -> Option<u16>
-    ensures { result ≡ weight_in word.now }
-{
+fn weight_in(word: &[u8]) -> Option<u16> {
     match number(word)? {
         weight @ 0..=1_000 => Some(weight as u16),
         _ => None,
@@ -98,9 +83,7 @@ fn weight_in(word: &[u8]) -> Option<u16>
 }
 
 /// The verb of this name that doesn't only ask.
-fn drawn_named(word: &[u8]) -> Option<Verb>
-    ensures { result ≡ drawn (verb_named word.now) }
-{
+fn drawn_named(word: &[u8]) -> Option<Verb> {
     let verb = Verb::named(word)?;
     if verb.place() < DRAWN {
         Some(verb)
@@ -110,9 +93,7 @@ fn drawn_named(word: &[u8]) -> Option<Verb>
 }
 
 /// What has a weight by this name.
-fn weighed_named(word: &[u8]) -> Option<Weighed>
-    ensures { result ≡ weighed_named word.now }
-{
+fn weighed_named(word: &[u8]) -> Option<Weighed> {
     match (drawn_named(word), read_kind(word)) {
         (Some(verb), _) => Some(Weighed::Verb(verb)),
         (None, Some(kind)) => Some(Weighed::Kind(kind)),
@@ -121,11 +102,7 @@ fn weighed_named(word: &[u8]) -> Option<Weighed>
 }
 
 /// What has a weight, and the weight, as a line says them.
-fn weight_of(line: &[u8]) -> Result<(Weighed, u16), WrongWords<'_>>
-    ensures ok { IfOk result (λ said. weight_of (words_of line.now) ≡ Some (said.0, said.1)) }
-    ensures err { IfErr result (λ _. weight_of (words_of line.now) ≡ None) }
-    ensures wrong { IfErr result (IsWrong (Some (words_of line.now))) }
-{
+fn weight_of(line: &[u8]) -> Result<(Weighed, u16), WrongWords<'_>> {
     let Some((name, rest)) = first_word(line) else {
         return Err(WrongWords::Missing);
     };
@@ -141,13 +118,7 @@ fn weight_of(line: &[u8]) -> Result<(Weighed, u16), WrongWords<'_>>
 
 impl Weights {
     /// Takes a line; what is wrong with it, if anything.
-    fn add<'a>(&mut self, line: &'a [u8]) -> Option<WrongWords<'a>>
-        ensures wrong { IfSome result (λ _. is_weight_line line.now ≡ false) }
-        ensures why { IfSome result (IsWrong (Some (words_of line.now))) }
-        ensures right { IfNone result (is_weight_line line.now ≡ true) }
-        ensures said { IfNone result
-            (self.new ≡ with_weight_line self.old line.now) }
-    {
+    fn add<'a>(&mut self, line: &'a [u8]) -> Option<WrongWords<'a>> {
         if is_comment(line) {
             return None;
         }
@@ -161,9 +132,7 @@ impl Weights {
     }
 
     /// Gives this weight.
-    fn set(&mut self, weighed: Weighed, weight: u16)
-        ensures { self.new ≡ with_said self.old weighed weight }
-    {
+    fn set(&mut self, weighed: Weighed, weight: u16) {
         match weighed {
             Weighed::Verb(verb) => self.by_place[verb.place()] = weight,
             Weighed::Kind(kind) => self.by_kind[usize::from(kind.number())] = weight,
@@ -172,9 +141,7 @@ impl Weights {
 
     /// The weights of the usual verbs, and of kinds that weigh alike.
     /// Source: `docs/FORMATS.md`, "Drawn files".
-    pub fn usual() -> Weights
-        ensures { result ≡ usual_or_alike }
-    {
+    pub fn usual() -> Weights {
         Weights {
             by_place: USUAL,
             by_kind: [1; KINDS],
@@ -184,9 +151,7 @@ impl Weights {
     /// The same weights, but those of kinds that aren't in the set are 0; and where those that are have weight 0 too, these
     /// have weight 1.
     /// Source: `docs/FORMATS.md`, "Drawn files".
-    pub fn of_kinds(self, kinds: &KindSet) -> Weights
-        ensures { result ≡ record self { by_kind = limited self.by_kind kinds.now.by_place } }
-    {
+    pub fn of_kinds(self, kinds: &KindSet) -> Weights {
         let mut by_kind = self.by_kind;
         leave_out(&mut by_kind, &ALL_KINDS, kinds);
         if sum_of(&by_kind) == 0 {
@@ -198,9 +163,7 @@ impl Weights {
     }
 
     /// The verb of a word: by the weights, or of those that don't only ask with one chance, and none then whose weight is 0.
-    pub(crate) fn verb_by(&self, even: bool, word: u32) -> Option<Verb>
-        ensures { result ≡ verb_by even self.now.by_place word }
-    {
+    pub(crate) fn verb_by(&self, even: bool, word: u32) -> Option<Verb> {
         if even {
             self.even_verb(word)
         } else {
@@ -209,9 +172,7 @@ impl Weights {
     }
 
     /// The verb of a word, of those that don't only ask with one chance; none whose weight is 0.
-    fn even_verb(&self, word: u32) -> Option<Verb>
-        ensures { result ≡ even_verb self.now.by_place word }
-    {
+    fn even_verb(&self, word: u32) -> Option<Verb> {
         let place = word % 19;
         if self.by_place[place as usize] == 0 {
             None
@@ -234,9 +195,7 @@ const ALL_KINDS: [Kind; KINDS] = [
 ];
 
 /// Makes those of these kinds weigh 0 that aren't in the set.
-fn leave_out(weights: &mut [u16; KINDS], kinds: &[Kind], set: &KindSet)
-    ensures { weights.new ≡ without_others set.now.by_place kinds.now weights.old }
-{
+fn leave_out(weights: &mut [u16; KINDS], kinds: &[Kind], set: &KindSet) {
     for kind in kinds {
         if !set.has(*kind) {
             weights[usize::from(kind.number())] = 0;
@@ -245,18 +204,12 @@ fn leave_out(weights: &mut [u16; KINDS], kinds: &[Kind], set: &KindSet)
 }
 
 /// The verb of a word, by the weights; none where all are 0.
-fn weighted_verb(weights: &[u16], word: u32) -> Option<Verb>
-    requires { length weights.now ≤ 23 }
-    ensures { result ≡ weighted_verb weights.now word }
-{
+fn weighted_verb(weights: &[u16], word: u32) -> Option<Verb> {
     Verb::at(place_by(weights, word)?)
 }
 
 /// The place of a word, by the weights; none where all are 0.
-pub(crate) fn place_by(weights: &[u16], word: u32) -> Option<usize>
-    requires { length weights.now ≤ 23 }
-    ensures { result ≡ place_by weights.now word }
-{
+pub(crate) fn place_by(weights: &[u16], word: u32) -> Option<usize> {
     let sum = sum_of(weights);
     if sum == 0 {
         return None;
@@ -265,17 +218,16 @@ pub(crate) fn place_by(weights: &[u16], word: u32) -> Option<usize>
 }
 
 /// The sum of weights.
-fn sum_of(weights: &[u16]) -> u32
-    requires { length weights.now ≤ 23 }
-    ensures { result ≡ sum weights.now }
-{
-    weights.iter().map(|weight| u32::from(*weight)).sum()
+fn sum_of(weights: &[u16]) -> u32 {
+    let mut sum: u32 = 0;
+    for weight in weights {
+        sum = sum.saturating_add(u32::from(*weight));
+    }
+    sum
 }
 
 /// The place in whose weight the number falls; none where it is behind them all.
-fn place_of(weights: &[u16], number: u32) -> Option<usize>
-    ensures { result ≡ place_from 0 weights.now number }
-{
+fn place_of(weights: &[u16], number: u32) -> Option<usize> {
     let mut left = number;
     for place in 0..weights.len() {
         let weight = u32::from(weights[place]);

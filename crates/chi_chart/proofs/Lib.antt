@@ -1,4 +1,0 @@
-pub mod Leads
-pub mod Enough
-pub mod Ranges
-pub mod HeadingLemmas
