@@ -33,26 +33,26 @@ fn fault_on_heap(
 fn a_heap_of_any_size_tells_a_faulty_file_or_cannot_read_it(
     rt: HostRuntime,
 ) -> Result<(), AllocError> {
-    let mut unread = 0;
-    let mut unplayed = 0;
-    let mut played = 0;
+    let mut unread = false;
+    let mut unplayed = false;
+    let mut played = false;
     for step in 0..400 {
         let faulty = fault_on_heap(&rt, 64 + 32 * step, FAULTY)?;
         match fault_on_heap(&rt, 64 + 32 * step, GOOD)? {
-            Some(_) if faulty == Some(Fault::NoMemory) => unread += 1,
+            Some(_) if faulty == Some(Fault::NoMemory) => unread = true,
             Some(fault) => {
                 same(&rt, faulty, Some(Fault::BadCommand(6)));
                 same(&rt, fault, Fault::NoMemory);
-                unplayed += 1;
+                unplayed = true;
             }
             None => {
                 same(&rt, faulty, Some(Fault::BadCommand(6)));
-                played += 1;
+                played = true;
             }
         }
     }
     assert!(rt;
-        unread > 0 && unplayed > 0 && played > 0,
+        unread && unplayed && played,
         "{unread} {unplayed} {played}"
     );
     Ok(())
