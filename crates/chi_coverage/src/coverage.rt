@@ -1,21 +1,17 @@
 //! What files cover, and what is told of it.
 
-ghost use Rattle.std.specs.Prelude.{◌≡◌, ◌≢◌, ◌++◌, [], IfOk, OnOk, None, Some, length, map, replicate, string_bytes};
-ghost use Rattle.std.specs.List.{filter};
-ghost use Rattle.chi_replay.specs.Suites.{faulty_line, first_of, given, given_of};
-ghost use Rattle.chi_coverage.specs.Coverage.{IsCoverReport, cover_text, is_reached, reached_of};
-ghost use Rattle.chi_coverage.specs.Counts.{CoverGoesOn, count_at, cover_state};
-ghost use Rattle.chi_coverage.specs.Places.{place_count};
-
-use crate::forms::{CoverShape, reached_in, text_of};
-use crate::lists::all_cells;
-use crate::places::PLACES;
-use crate::runs::count_file;
-use chi_flit::NoMemory;
-use chi_replay::{FaultWords, SuiteFile};
-use chi_script::{Fault, hint_at};
-use std::alloc::Allocator;
-use std::io::Write;
+use crate::forms::{CoverShape, text_of};
+use crate::past::Past;
+use crate::scenes::scene_of;
+use crate::steps::{Step, named_by};
+use crate::tally::Tally;
+use chi_flit::{Line, NoMemory};
+use chi_node::System;
+use chi_replay::{FaultWords, SuiteFile, answer};
+use chi_script::{CheckFile, Command, FILLER_BEGINS, FILLER_ENDS, Fault, hint_at, is, read_checks};
+use chi_slice::{Config, LineView};
+use std::alloc::{AllocError, Allocator};
+use std::fmt::Write;
 
 /// What came of the coverage of files.
 /// Source: `docs/FORMATS.md`, "Coverage".
@@ -42,105 +38,128 @@ pub fn cover<A: Allocator + Copy>(
     alloc: A,
     files: &[SuiteFile],
     shape: CoverShape,
-) -> Result<CoverReport<A>, NoMemory>
-    ensures { IfOk result
-        (λ report. IsCoverReport shape (map given_of files.now) report.text.items
-        (string_bytes report.faults) report.fault report.reached) }
-{
-    let mut run = CoverRun::new(alloc)?;
+) -> Result<CoverReport<A>, NoMemory> {
+    let mut tally = Tally::new(alloc)?;
+    let mut faults = String::new(alloc);
+    let mut fault = None;
     for file in files {
-        run.add(alloc, file)?;
+        if let Err(found) = count_file(alloc, file, &mut tally) {
+            tell_fault(alloc, file, found, &mut faults)?;
+            fault = fault.or(Some(found));
+        }
     }
-    run.report(alloc, shape)
+    let text = text_of(alloc, &tally, shape)?;
+    let (_, reached) = tally.reachable();
+    Ok(CoverReport {
+        text,
+        faults,
+        fault,
+        reached,
+    })
 }
 
-/// The files as far as they were played.
-#[derive(Drop)]
-struct CoverRun<A: Allocator> {
-    counts: Vec<u64, A>,
-    faults: String<A>,
-    fault: Option<Fault>,
+/// Puts the line of a faulty file behind the others. Refused where memory runs out, or ran out before.
+fn tell_fault<A: Allocator + Copy>(
+    alloc: A,
+    file: &SuiteFile,
+    fault: Fault,
+    faults: &mut String<A>,
+) -> Result<(), NoMemory> {
+    if fault == Fault::NoMemory {
+        return Err(NoMemory);
+    }
+    let name = file.name;
+    let words = FaultWords(fault);
+    let hint = match file.bytes {
+        Some(bytes) => hint_at(alloc, bytes, fault)?,
+        None => String::new(alloc),
+    };
+    writeln!(faults, "chihome: {name}: {words}{hint}").map_err(|_| NoMemory)
 }
 
-impl<A: Allocator + Copy> CoverRun<A> {
-    /// No file was played yet. Refused where memory runs out.
-    fn new(alloc: A) -> Result<CoverRun<A>, NoMemory>
-        ensures counts { IfOk result (λ run. run.counts.items ≡ replicate place_count 0) }
-        ensures faults { IfOk result (λ run. string_bytes run.faults ≡ []) }
-        ensures fault { IfOk result (λ run. run.fault ≡ None) }
-    {
-        Ok(CoverRun {
-            counts: vec![in alloc; 0; PLACES]?,
-            faults: String::new(alloc),
-            fault: None,
-        })
-    }
+/// Plays the commands of a file, and counts the cells of their steps; else its first fault, and nothing is counted, or
+/// want of memory.
+fn count_file<A: Allocator + Copy>(
+    alloc: A,
+    file: &SuiteFile,
+    tally: &mut Tally<A>,
+) -> Result<(), Fault> {
+    let bytes = file.bytes.ok_or(Fault::Read)?;
+    let script = read_checks(alloc, bytes)?;
+    let fillers = filler_lines(alloc, bytes)?;
+    count_script(alloc, &script, &fillers, tally).map_err(|_| Fault::NoMemory)
+}
 
-    /// Plays a file. Refused where memory runs out.
-    fn add(&mut self, alloc: A, file: &SuiteFile) -> Result<(), NoMemory>
-        requires { length self.old.counts.items ≡ place_count }
-        ensures { OnOk result (CoverGoesOn (given_of file.now)
-            (cover_state self.old.counts.items (string_bytes self.old.faults) self.old.fault)
-            (cover_state self.new.counts.items (string_bytes self.new.faults) self.new.fault)) }
-    {
-        match file.bytes {
-            Some(bytes) => self.add_bytes(alloc, file.name, bytes),
-            None => self.add_fault(file.name, Fault::Read, ""),
+/// Of each line of a check file, by its number, whether a command there is filler; there is no line 0. Refused where
+/// memory runs out.
+fn filler_lines<A: Allocator>(alloc: A, bytes: &[u8]) -> Result<Vec<bool, A>, AllocError> {
+    let mut fillers = vec![in alloc; false]?;
+    let mut filler = false;
+    for line in bytes.split(|byte| *byte == b'\n') {
+        filler = is(line, FILLER_BEGINS) || (filler && !is(line, FILLER_ENDS));
+        fillers.push(filler)?;
+    }
+    Ok(fillers)
+}
+
+/// Plays the commands of a good file on a new node, and counts the cells of each step that is no filler. Refused where
+/// memory runs out.
+fn count_script<A: Allocator + Copy>(
+    alloc: A,
+    script: &CheckFile<'_, A>,
+    fillers: &[bool],
+    tally: &mut Tally<A>,
+) -> Result<(), NoMemory> {
+    let mut system = System::new(alloc, &script.header)?;
+    let mut past = Past::new();
+    for check in &script.checks {
+        let filler = fillers.get(check.line) == Some(&true);
+        let config = &script.header;
+        count_command(
+            config,
+            &mut system,
+            &check.command,
+            filler,
+            &mut past,
+            tally,
+        )?;
+    }
+    Ok(())
+}
+
+/// Plays a command, and counts the cells of its step, where it is no filler. Refused where memory runs out.
+fn count_command<A: Allocator + Copy>(
+    config: &Config,
+    system: &mut System<A>,
+    command: &Command,
+    filler: bool,
+    past: &mut Past,
+    tally: &mut Tally<A>,
+) -> Result<(), NoMemory> {
+    let (agent, line) = named_by(*command);
+    let before = view_in(system, line);
+    let reply = answer(system, *command);
+    let after = view_in(system, line);
+    let step = Step {
+        config,
+        command: *command,
+        agent,
+        line,
+        reply: &reply,
+        scene: scene_of(&before, agent),
+        after: &after,
+    };
+    if !filler {
+        match reply.refusal() {
+            Some(refusal) => tally.count_refused(&step, past, refusal)?,
+            None => tally.count_done(&step, past)?,
         }
     }
+    past.follow(&step);
+    Ok(())
+}
 
-    /// Plays the file of this name, whose bytes these are. Refused where memory runs out.
-    fn add_bytes(&mut self, alloc: A, name: &str, bytes: &[u8]) -> Result<(), NoMemory>
-        requires { length self.old.counts.items ≡ place_count }
-        ensures { OnOk result (CoverGoesOn (given name.now (Some bytes.now))
-            (cover_state self.old.counts.items (string_bytes self.old.faults) self.old.fault)
-            (cover_state self.new.counts.items (string_bytes self.new.faults) self.new.fault)) }
-    {
-        match count_file(alloc, bytes, self.counts.as_mut_slice()) {
-            Ok(()) => Ok(()),
-            Err(fault) => {
-                let hint = hint_at(alloc, bytes, fault)?;
-                self.add_fault(name, fault, hint.as_str())
-            }
-        }
-    }
-
-    /// Tells that the file of this name is faulty, and the hint. Refused where memory runs out, or ran out before.
-    fn add_fault(&mut self, name: &str, fault: Fault, hint: &str) -> Result<(), NoMemory>
-        ensures counts { OnOk result (self.new.counts.items ≡ self.old.counts.items) }
-        ensures faults { OnOk result (string_bytes self.new.faults
-            ≡ string_bytes self.old.faults ++ faulty_line name.now fault hint.now) }
-        ensures fault { OnOk result (self.new.fault ≡ first_of self.old.fault (Some fault)) }
-        ensures memory { OnOk result (fault ≢ Fault.NoMemory) }
-    {
-        if fault == Fault::NoMemory {
-            return Err(NoMemory);
-        }
-        let words = FaultWords(fault);
-        writeln!(self.faults, "chihome: {name}: {words}{hint}").map_err(|_| NoMemory)?;
-        self.fault = self.fault.or(Some(fault));
-        Ok(())
-    }
-
-    /// What came of all files. Refused where memory runs out.
-    fn report(self, alloc: A, shape: CoverShape) -> Result<CoverReport<A>, NoMemory>
-        requires { length self.counts.items ≡ place_count }
-        ensures text { IfOk result
-            (λ report. report.text.items ≡ cover_text shape (count_at self.counts.items)) }
-        ensures faults { IfOk result (λ report. string_bytes report.faults
-            ≡ string_bytes self.faults) }
-        ensures fault { IfOk result (λ report. report.fault ≡ self.fault) }
-        ensures reached { IfOk result
-            (λ report. report.reached ≡ reached_of (count_at self.counts.items)) }
-    {
-        let text = text_of(alloc, all_cells(), &self.counts, shape)?;
-        let reached = reached_in(all_cells(), &self.counts)?;
-        let CoverRun { faults, fault, .. } = self;
-        Ok(CoverReport {
-            text,
-            faults,
-            fault,
-            reached,
-        })
-    }
+/// The line as it is shown, where one is named, and there is one of that number.
+fn view_in<A: Allocator>(system: &System<A>, line: Option<Line>) -> Option<LineView> {
+    system.view(line?).ok()
 }

@@ -3,33 +3,25 @@
 //! Source: `docs/FORMATS.md`, "Coverage".
 #![tactic(auto)]
 
-mod accounts;
-mod cells;
-mod completions;
-mod counts;
+/// One more of the cell whose text is printed so. Refused where memory runs out.
+macro_rules! reach {
+    ($tally:expr, $($text:tt)+) => {{
+        let text = format!(in $tally.alloc; $($text)+)?;
+        $tally.reach(text.as_str())
+    }};
+}
+
 mod coverage;
-mod fillers;
+mod done;
 mod forms;
-mod journals;
-mod laws;
-mod lists;
 mod merging;
-mod messages;
-mod named;
-mod outcomes;
 mod past;
-mod places;
 mod refused;
-mod requester_cells;
-mod requests;
-mod runs;
+mod rows;
 mod scenes;
-mod sharing;
-mod situations;
-mod snoops;
 mod steps;
+mod tally;
 
 pub use coverage::{CoverReport, cover};
 pub use forms::{CoverForm, CoverShape};
-pub use laws::cells_are_apart;
 pub use merging::{MergeReport, merge};

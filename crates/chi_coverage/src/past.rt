@@ -1,275 +1,182 @@
-//! What the steps before have left, and the cells that it shows.
+//! What the steps before have left.
 
-ghost use Rattle.std.specs.Prelude.{◌≡◌, OnOk, slice_set};
-ghost use Rattle.std.specs.List.{slice_index_or};
-ghost use Rattle.chi_coverage.specs.Coverage.{past_shown};
-ghost use Rattle.chi_coverage.specs.Past.{account_shown, any_room, data_shown, has_room, journal_number, journal_shown, no_past, past_after, past_cells, passed_shown, with_agent_step, with_journal_step, with_line_step};
-
-use crate::accounts::{AccountView, NO_ACCOUNT, account_cell};
-use crate::cells::Cell;
-use crate::journals::{JournalView, NO_JOURNAL, journal_cell};
-use crate::named::{Named, named_of};
-use crate::scenes::{Scene, scene_named};
-use crate::sharing::{NO_SHARING, Sharing, data_cell, passed_cell};
-use chi_flit::{Agent, Line, NoMemory, Profile, Refusal};
+use crate::steps::Step;
+use chi_flit::{Config, CreditType, DatUp, credit_type};
 use chi_replay::Reply;
-use chi_script::Command;
-use chi_slice::{Config, LineView};
+use chi_script::Verb;
 
-/// What the steps before have left.
+/// What the answers so far show of an agent's account, by credit type: the seen credits, the Riding and the Cancelled slots.
+/// Source: `docs/FORMATS.md`, "Coverage", and `docs/PROTOCOL.md`, "Slots and accounts".
+#[derive(Clone, Copy)]
+pub(crate) struct AccountView {
+    seen: [u32; 4],
+    riding: [u32; 4],
+    cancelled: [u32; 4],
+}
+
+/// What the steps before have left, by the numbers of agents, slices and lines.
 /// Source: `docs/FORMATS.md`, "Coverage".
 #[derive(Clone, Copy)]
 pub(crate) struct Past {
-    /// What the answers show of each agent's account, and of each slice's journal.
-    pub(crate) accounts: [AccountView; 8],
-    pub(crate) journals: [JournalView; 8],
-    /// What dirty data has done at each line.
-    pub(crate) lines: [Sharing; 64],
+    accounts: [AccountView; 8],
+    /// The records of the slices' journals, and whether one of them is a store.
+    records: [u64; 8],
+    stores: [bool; 8],
+    /// The lines of which a read was answered with the data of SnpRespData_SD, and those whose owner passed its duty by
+    /// SnpRespData_SC_PD.
+    shared: [bool; 64],
+    passed: [bool; 64],
 }
 
-/// What is at a place; another where nothing is.
-#[tactic(auto, using(std::proofs::lemmas::List::get_or_past, std::proofs::lemmas::List::get_or_default))]
-fn at<T: Copy>(list: &[T], place: usize, other: T) -> T
-    ensures { result ≡ slice_index_or list.now place other }
-{
-    if place < list.len() {
-        list[place]
-    } else {
-        other
+const NO_ACCOUNT: AccountView = AccountView {
+    seen: [0; 4],
+    riding: [0; 4],
+    cancelled: [0; 4],
+};
+
+impl AccountView {
+    /// Whether a seen credit of the type is beyond those for the Riding slots.
+    pub(crate) fn has_unused_credit(&self, credit: CreditType) -> bool {
+        let place = usize::from(credit.number());
+        self.riding[place] < self.seen[place]
+    }
+
+    /// Whether a slot of the type is Cancelled.
+    pub(crate) fn has_cancelled(&self, credit: CreditType) -> bool {
+        self.cancelled[usize::from(credit.number())] > 0
+    }
+
+    /// After a step of the agent.
+    fn follow(&mut self, step: &Step) {
+        if let Reply::Credits(credits) = step.reply {
+            self.seen = credits.counts;
+        }
+        let Some(credit) = credit_of(step) else {
+            return;
+        };
+        let place = usize::from(credit.number());
+        match step.verb() {
+            Verb::Resend => self.riding[place] = self.riding[place].saturating_add(1),
+            Verb::Cancel => self.cancelled[place] = self.cancelled[place].saturating_add(1),
+            Verb::Arrive => {
+                self.seen[place] = self.seen[place].saturating_sub(1);
+                self.riding[place] = self.riding[place].saturating_sub(1);
+            }
+            _ => {
+                self.seen[place] = self.seen[place].saturating_sub(1);
+                self.cancelled[place] = self.cancelled[place].saturating_sub(1);
+            }
+        }
     }
 }
 
-/// What is at a place becomes this, where something is.
-#[tactic(auto, using(std::proofs::lemmas::List::set_past))]
-fn put<T: Copy>(list: &mut [T], place: usize, item: T)
-    ensures { list.new ≡ slice_set list.old place item }
-{
-    if place < list.len() {
-        list[place] = item;
+/// The type of the credit that a step needs, spends or gives back.
+fn credit_of(step: &Step) -> Option<CreditType> {
+    let kind = match step.verb() {
+        Verb::GiveBack => return step.credit(),
+        Verb::Resend | Verb::Cancel => step.scene?.pending?.kind,
+        Verb::Arrive => match step.scene?.flits.req? {
+            request if request.allow_retry => return None,
+            request => request.kind,
+        },
+        _ => return None,
+    };
+    Some(credit_type(step.config.profile(), kind))
+}
+
+/// One more at a place, where it is one.
+fn more(numbers: &mut [u64; 8], place: usize) {
+    if let Some(number) = numbers.get_mut(place) {
+        *number = number.saturating_add(1);
     }
 }
 
-/// The place of the journal of a line's slice.
-fn journal_number(config: &Config, line: Line) -> usize
-    ensures { result ≡ journal_number config.now line }
-{
-    usize::from(config.slice_of(line))
+/// A mark at a place, where it is one.
+fn mark(marks: &mut [bool], place: usize) {
+    if let Some(marked) = marks.get_mut(place) {
+        *marked = true;
+    }
 }
 
 impl Past {
     /// Before the first step.
-    pub(crate) fn new() -> Past
-        ensures { result ≡ no_past }
-    {
+    pub(crate) fn new() -> Past {
         Past {
             accounts: [NO_ACCOUNT; 8],
-            journals: [NO_JOURNAL; 8],
-            lines: [NO_SHARING; 64],
+            records: [0; 8],
+            stores: [false; 8],
+            shared: [false; 64],
+            passed: [false; 64],
         }
     }
 
-    /// The account of the agent after a step that is done. Refused where a number is too large, as only endless memory
-    /// could have it.
-    fn follow_agent(
-        &mut self,
-        profile: Profile,
-        named: &Named,
-        before: &Option<Scene>,
-        reply: &Reply,
-    ) -> Result<(), NoMemory>
-        ensures { OnOk result (self.new
-            ≡ with_agent_step profile named.now before.now reply.now named.now.agent self.old) }
-    {
-        if let Some(agent) = named.agent {
-            let place = usize::from(agent.0);
-            let account = at(&self.accounts, place, NO_ACCOUNT).after(
-                profile, named, before, reply,
-            )?;
-            put(&mut self.accounts, place, account);
+    /// After a step; a refused one leaves nothing.
+    pub(crate) fn follow(&mut self, step: &Step) {
+        if step.reply.refusal().is_some() {
+            return;
         }
-        Ok(())
-    }
-
-    /// The journal of the line's slice after a step that is done. Refused as `follow_agent` is.
-    fn follow_journal(&mut self, config: &Config, named: &Named) -> Result<(), NoMemory>
-        ensures { OnOk result (self.new
-            ≡ with_journal_step config.now named.now.verb named.now.line self.old) }
-    {
-        if let Some(line) = named.line {
-            let place = journal_number(config, line);
-            let journal = at(&self.journals, place, NO_JOURNAL).after(named.verb)?;
-            put(&mut self.journals, place, journal);
+        if let Some(account) = self.accounts.get_mut(step.agent_place()) {
+            account.follow(step);
         }
-        Ok(())
-    }
-
-    /// The line after a step that is done.
-    fn follow_line(&mut self, named: &Named, before: &Option<Scene>)
-        ensures { self.new ≡ with_line_step named.now.verb before.now named.now.line self.old }
-    {
-        if let Some(line) = named.line {
-            let place = usize::from(line.0);
-            let sharing = at(&self.lines, place, NO_SHARING).after(named.verb, before);
-            put(&mut self.lines, place, sharing);
-        }
-    }
-
-    /// After a step, by what it names. Refused as `follow_agent` is.
-    fn follow_named(
-        &mut self,
-        config: &Config,
-        named: &Named,
-        before: &Option<Scene>,
-        reply: &Reply,
-    ) -> Result<(), NoMemory>
-        ensures { OnOk result
-            (self.new ≡ past_after config.now self.old named.now before.now reply.now) }
-    {
-        match reply.refusal() {
-            Some(_) => Ok(()),
-            None => {
-                self.follow_agent(config.profile(), named, before, reply)?;
-                self.follow_journal(config, named)?;
-                self.follow_line(named, before);
-                Ok(())
+        match step.verb() {
+            Verb::Load => more(&mut self.records, step.slice_place()),
+            Verb::Store => {
+                more(&mut self.records, step.slice_place());
+                mark(&mut self.stores, step.slice_place());
             }
+            Verb::SnpResp => self.follow_answer(step),
+            _ => {}
         }
     }
 
-    /// After a step, by its command. Refused as `follow_agent` is.
-    pub(crate) fn follow(
-        &mut self,
-        config: &Config,
-        command: Command,
-        before: &Option<LineView>,
-        reply: &Reply,
-    ) -> Result<(), NoMemory>
-        ensures { OnOk result
-            (self.new ≡ past_shown config.now self.old command before.now reply.now) }
-    {
-        let named = named_of(command);
-        let scene = scene_named(before, named.agent);
-        self.follow_named(config, &named, &scene, reply)
-    }
-}
-
-/// The cell that an agent's account shows.
-fn account_shown(
-    profile: Profile,
-    past: &Past,
-    named: &Named,
-    before: &Option<Scene>,
-    reply: &Reply,
-) -> Option<Cell>
-    ensures { result
-        ≡ account_shown named.now.agent profile past.now named.now before.now reply.now }
-{
-    match named.agent {
-        Some(agent) => {
-            let account = at(&past.accounts, usize::from(agent.0), NO_ACCOUNT);
-            account_cell(profile, named, before, reply, &account)
+    /// After an answer to a snoop.
+    fn follow_answer(&mut self, step: &Step) {
+        let Some(scene) = &step.scene else {
+            return;
+        };
+        let line = step.line_place();
+        match scene.flits.dat_up {
+            Some(DatUp::SnpRespDataSD(_)) => mark(&mut self.shared, line),
+            Some(DatUp::SnpRespDataSCPD(_)) if scene.owns => mark(&mut self.passed, line),
+            _ => {}
         }
-        None => None,
     }
-}
 
-/// Whether the journal of the slice of this number, which is there, has room.
-fn has_room(config: &Config, past: &Past, number: usize) -> bool
-    ensures { result ≡ has_room config.now past.now number }
-{
-    number < usize::from(config.slices())
-        && at(&past.journals, number, NO_JOURNAL).records < u64::from(config.journal())
-}
-
-/// Whether the journal of a slice has room.
-fn any_room(config: &Config, past: &Past) -> bool
-    ensures { result ≡ any_room config.now past.now }
-{
-    has_room(config, past, 0)
-        || has_room(config, past, 1)
-        || has_room(config, past, 2)
-        || has_room(config, past, 3)
-        || has_room(config, past, 4)
-        || has_room(config, past, 5)
-        || has_room(config, past, 6)
-        || has_room(config, past, 7)
-}
-
-/// The cell that the journal of the line's slice shows.
-fn journal_shown(
-    config: &Config,
-    refusal: Option<Refusal>,
-    past: &Past,
-    named: &Named,
-) -> Option<Cell>
-    ensures { result ≡ journal_shown config.now refusal named.now.verb past.now named.now.line }
-{
-    match named.line {
-        Some(line) => {
-            let journal = at(&past.journals, journal_number(config, line), NO_JOURNAL);
-            let full = journal.records == u64::from(config.journal());
-            let room = any_room(config, past);
-            journal_cell(refusal, named.verb, journal.has_store, full, room)
-        }
-        None => None,
+    /// What the answers show of the account of the step's agent.
+    pub(crate) fn account(&self, step: &Step) -> AccountView {
+        self.accounts
+            .get(step.agent_place())
+            .copied()
+            .unwrap_or(NO_ACCOUNT)
     }
-}
 
-/// The cell of the data of a read that the command completes.
-fn data_shown(
-    refusal: Option<Refusal>,
-    past: &Past,
-    named: &Named,
-    before: &Option<Scene>,
-    after: &Option<LineView>,
-) -> Option<Cell>
-    ensures { result ≡ data_shown refusal named.now past.now named.now.agent named.now.line
-        before.now after.now }
-{
-    match (refusal, named.agent, named.line, before) {
-        (None, Some(agent), Some(line), Some(scene)) => {
-            let sharing = at(&past.lines, usize::from(line.0), NO_SHARING);
-            data_cell(named.verb, agent, scene, after, sharing)
-        }
-        _ => None,
+    /// Whether a read of the step's line was answered with the data of SnpRespData_SD.
+    pub(crate) fn is_shared(&self, step: &Step) -> bool {
+        self.shared.get(step.line_place()) == Some(&true)
     }
-}
 
-/// The cell of a read behind an owner that passed its duty.
-fn passed_shown(
-    refusal: Option<Refusal>,
-    past: &Past,
-    named: &Named,
-    after: &Option<LineView>,
-) -> Option<Cell>
-    ensures { result ≡ passed_shown refusal named.now past.now named.now.agent named.now.line
-        after.now }
-{
-    match (refusal, named.agent, named.line) {
-        (None, Some(agent), Some(line)) => {
-            let sharing = at(&past.lines, usize::from(line.0), NO_SHARING);
-            passed_cell(named.verb, agent, after, sharing)
-        }
-        _ => None,
+    /// Whether the owner of the step's line passed its duty by SnpRespData_SC_PD.
+    pub(crate) fn is_passed(&self, step: &Step) -> bool {
+        self.passed.get(step.line_place()) == Some(&true)
     }
-}
 
-/// The cells that the steps before show.
-pub(crate) fn past_cells(
-    config: &Config,
-    past: &Past,
-    named: &Named,
-    before: &Option<Scene>,
-    reply: &Reply,
-    after: &Option<LineView>,
-) -> [Option<Cell>; 4]
-    ensures { result ≡ past_cells config.now past.now named.now before.now reply.now after.now }
-{
-    let refusal = reply.refusal();
-    [
-        account_shown(config.profile(), past, named, before, reply),
-        journal_shown(config, refusal, past, named),
-        data_shown(refusal, past, named, before, after),
-        passed_shown(refusal, past, named, after),
-    ]
+    /// Whether a store is in the journal of the step's slice.
+    pub(crate) fn has_store(&self, step: &Step) -> bool {
+        self.stores.get(step.slice_place()) == Some(&true)
+    }
+
+    /// Whether the journal of the step's slice is full, as far as the answers show it.
+    pub(crate) fn is_full(&self, step: &Step) -> bool {
+        self.records.get(step.slice_place()) == Some(&u64::from(step.config.journal()))
+    }
+
+    /// Whether the journal of a slice has room, as far as the answers show it.
+    pub(crate) fn has_room(&self, config: &Config) -> bool {
+        let most = u64::from(config.journal());
+        let slices = usize::from(config.slices());
+        self.records
+            .iter()
+            .take(slices)
+            .any(|records| *records < most)
+    }
 }

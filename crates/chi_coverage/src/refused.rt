@@ -1,223 +1,173 @@
 //! The cells of a refused command.
 
-ghost use Rattle.std.specs.Prelude.{◌≡◌};
-ghost use Rattle.chi_coverage.specs.Refused.{both_cell, both_fit, busy_reason, cancel_reason, is_no_agent, is_no_line, is_second, kind_cell, operand_reason, outside_reason, pending_reason, reason_of, refused_cell, refused_cells, retry_reason, state_reason};
-
-use crate::cells::{Cell, Reason};
-use crate::named::Named;
-use crate::requester_cells::RequesterCell;
+use crate::past::Past;
 use crate::scenes::Scene;
-use chi_flit::{Agent, Line, Refusal, State};
+use crate::steps::Step;
+use crate::tally::Tally;
+use chi_flit::{NoMemory, Refusal, State, credit_type};
 use chi_script::Verb;
-use chi_slice::{Pending, Serving};
+use chi_slice::Serving;
+use std::alloc::Allocator;
 
-/// The operand, behind the agent and the line, that may be outside its range.
-fn operand_reason(verb: Verb) -> Reason
-    ensures { result ≡ operand_reason verb }
-{
-    match verb {
-        Verb::Load | Verb::Store => Reason::Word,
-        Verb::Issue => Reason::Slot,
-        _ => Reason::Type,
+impl<A: Allocator + Copy> Tally<A> {
+    /// One more of each cell of a refused command. Refused where memory runs out.
+    pub(crate) fn count_refused(
+        &mut self,
+        step: &Step,
+        past: &Past,
+        refusal: Refusal,
+    ) -> Result<(), NoMemory> {
+        let verb = step.verb();
+        if let Some(reason) = reason_of(refusal, step) {
+            reach!(self, "{verb}: refused {reason}")?;
+        }
+        if let Some(order) = order_at_line(refusal, step) {
+            reach!(self, "{verb}: {order}")?;
+        }
+        if let Some(order) = order_by_past(refusal, step, past) {
+            reach!(self, "{verb}: {order}")?;
+        }
+        let elsewhere = refusal == Refusal::JournalFull && past.has_room(step.config);
+        self.reach_if(elsewhere, "full in one slice, not in another")?;
+        match refusal {
+            Refusal::WrongState => self.count_kind(step),
+            Refusal::NoCredit => self.reach_some(credit_reason(step, past)),
+            _ => Ok(()),
+        }
+    }
+
+    /// One more of what a refusal for the copy's state says of the request's kind.
+    fn count_kind(&mut self, step: &Step) -> Result<(), NoMemory> {
+        let Some(scene) = &step.scene else {
+            return Ok(());
+        };
+        let state = scene.state;
+        let pending = scene.pending.map(|pending| pending.kind);
+        match (step.verb(), step.kind(), pending) {
+            (Verb::Issue, Some(kind), _) => reach!(self, "issue: {kind} in {state}"),
+            (Verb::Resend, _, Some(kind)) => { reach!(self, "resend refused 2: {kind} in {state}") }
+            (Verb::Cancel, _, Some(kind)) => reach!(self, "cancel refused 2: {kind}"),
+            _ => Ok(()),
+        }
     }
 }
 
-/// Whether an agent is named that isn't one of so many.
-fn is_no_agent(agent: Option<Agent>, agents: u8) -> bool
-    ensures { result ≡ is_no_agent agent agents }
-{
-    match agent {
-        Some(agent) => agent.0 >= agents,
-        None => false,
+/// The cell of a credit that isn't given back: whether a slot is cancelled, and whether a credit is seen.
+fn credit_reason(step: &Step, past: &Past) -> Option<&'static str> {
+    let credit = step.credit()?;
+    let account = past.account(step);
+    match (
+        account.has_cancelled(credit),
+        account.has_unused_credit(credit),
+    ) {
+        (true, true) => None,
+        (true, false) => Some("giveback: refused 12 no credit is seen"),
+        (false, false) => Some("giveback: refused 12 no slot is cancelled"),
+        (false, true) => Some("giveback: refused 12 a credit is seen, and no slot is cancelled"),
     }
 }
 
-/// Whether a line is named that isn't one of so many.
-fn is_no_line(line: Option<Line>, lines: u8) -> bool
-    ensures { result ≡ is_no_line line lines }
-{
-    match line {
-        Some(line) => line.0 >= lines,
-        None => false,
+/// Why a command was refused, by the refusal and what stood before; that of a `giveback` is told by the steps before.
+fn reason_of(refusal: Refusal, step: &Step) -> Option<&'static str> {
+    if refusal == Refusal::OutOfRange {
+        return Some(outside_reason(step));
+    }
+    let scene = &step.scene?;
+    match refusal {
+        Refusal::JournalFull => Some("1"),
+        Refusal::WrongState => state_reason(step.verb(), scene),
+        Refusal::Pending if scene.pending.is_some() => Some("3 a request is pending"),
+        Refusal::Pending => Some("3 the slot is in use"),
+        Refusal::NothingPending => Some(retry_reason(scene)),
+        Refusal::LineBusy => busy_reason(scene.serving),
+        Refusal::NotWaiting => Some("6"),
+        Refusal::NoFlit => Some("7"),
+        Refusal::NoCredit => Some("12"),
+        _ => None,
     }
 }
 
 /// The first operand that is outside its range.
-fn outside_reason(named: &Named, agents: u8, lines: u8) -> Reason
-    ensures { result ≡ outside_reason named.now agents lines }
-{
-    if is_no_agent(named.agent, agents) {
-        Reason::Agent
-    } else if is_no_line(named.line, lines) {
-        Reason::Line
-    } else {
-        operand_reason(named.verb)
+fn outside_reason(step: &Step) -> &'static str {
+    if step
+        .agent
+        .is_some_and(|agent| agent.0 >= step.config.agents())
+    {
+        return "10 by its agent";
+    }
+    if step.line.is_some_and(|line| line.0 >= step.config.lines()) {
+        return "10 by its line";
+    }
+    match step.verb() {
+        Verb::Load | Verb::Store => "10 by its word",
+        Verb::Issue => "10 by its slot",
+        _ => "10 by its type",
     }
 }
 
 /// Why a copy's state doesn't allow a command; of an `issue` the state and the kind say it.
-fn state_reason(verb: Verb, scene: &Scene) -> Option<Reason>
-    ensures { result ≡ state_reason verb scene.now }
-{
-    match verb {
-        Verb::Load | Verb::Store | Verb::Drop => Some(Reason::State(scene.state)),
-        Verb::Resend => Some(Reason::NotSendable),
-        Verb::Cancel => Some(cancel_reason(scene.pending?)),
-        _ => None,
-    }
-}
-
-/// Why a retried request isn't cancelled.
-fn cancel_reason(pending: Pending) -> Reason
-    ensures { result ≡ cancel_reason pending }
-{
-    if pending.kind.is_copy_back() {
-        Reason::Sendable
-    } else {
-        Reason::NotCopyBack
+fn state_reason(verb: Verb, scene: &Scene) -> Option<&'static str> {
+    match (verb, scene.state) {
+        (Verb::Resend, _) => Some("2"),
+        (Verb::Cancel, _) if scene.pending?.kind.is_copy_back() => {
+            Some("2 its copy is as it needs it")
+        }
+        (Verb::Cancel, _) => Some("2 it is no copy-back"),
+        (Verb::Issue, _) => None,
+        (_, State::I) => Some("2 in I"),
+        (_, State::SC) => Some("2 in SC"),
+        (_, State::UC) => Some("2 in UC"),
+        (_, State::UD) => Some("2 in UD"),
+        (_, State::SD) => Some("2 in SD"),
     }
 }
 
 /// Why a request isn't one that waits for a credit.
-fn retry_reason(scene: &Scene) -> Reason
-    ensures { result ≡ retry_reason scene.now }
-{
-    if scene.pending.is_none() {
-        Reason::NothingPending
-    } else if is_second(scene) {
-        Reason::Resent
-    } else {
-        Reason::NotRetried
-    }
-}
-
-/// Whether the agent's second attempt is in flight.
-fn is_second(scene: &Scene) -> bool
-    ensures { result ≡ is_second scene.now }
-{
-    match scene.flits.req {
-        Some(request) => !request.allow_retry,
-        None => false,
+fn retry_reason(scene: &Scene) -> &'static str {
+    match (scene.pending, scene.flits.req) {
+        (None, _) => "4 nothing is pending",
+        (_, Some(request)) if !request.allow_retry => "4 it was sent again",
+        _ => "4 it wasn't retried",
     }
 }
 
 /// What the line serves.
-fn busy_reason(serving: Serving) -> Option<Reason>
-    ensures { result ≡ busy_reason serving }
-{
+fn busy_reason(serving: Serving) -> Option<&'static str> {
     match serving {
         Serving::Idle => None,
-        Serving::Snooping { .. } => Some(Reason::Snooping),
-        Serving::AwaitingCompAck { .. } => Some(Reason::CompAck),
-        Serving::AwaitingWriteData { .. } => Some(Reason::WriteData),
+        Serving::Snooping { .. } => Some("5 snooping"),
+        Serving::AwaitingCompAck { .. } => Some("5 compack"),
+        Serving::AwaitingWriteData { .. } => Some("5 wrdata"),
     }
 }
 
-/// Why a command was refused, by the refusal and what stood before.
-fn reason_of(refusal: Refusal, verb: Verb, scene: &Scene) -> Option<Reason>
-    ensures { result ≡ reason_of refusal verb scene.now }
-{
-    match refusal {
-        Refusal::JournalFull => Some(Reason::JournalFull),
-        Refusal::WrongState => state_reason(verb, scene),
-        Refusal::Pending => Some(pending_reason(scene)),
-        Refusal::NothingPending => Some(retry_reason(scene)),
-        Refusal::LineBusy => busy_reason(scene.serving),
-        Refusal::NotWaiting => Some(Reason::NotWaiting),
-        Refusal::NoFlit => Some(Reason::NoFlit),
-        Refusal::NoCredit => Some(Reason::NoCredit),
-        Refusal::OutOfRange | Refusal::NoMemory | Refusal::MustAccept | Refusal::NotOpen => None,
-    }
-}
-
-/// What refuses a new request.
-fn pending_reason(scene: &Scene) -> Reason
-    ensures { result ≡ pending_reason scene.now }
-{
-    if scene.pending.is_some() {
-        Reason::Pending
-    } else {
-        Reason::SlotInUse
-    }
-}
-
-/// The cell of a refused command. 10 is told by its operands, and 12 of `giveback` by the steps before.
-fn refused_cell(
-    refusal: Refusal,
-    named: &Named,
-    agents: u8,
-    lines: u8,
-    before: &Option<Scene>,
-) -> Option<Cell>
-    ensures { result ≡ refused_cell refusal named.now agents lines before.now }
-{
-    let reason = match (refusal, before) {
-        (Refusal::OutOfRange, _) => Some(outside_reason(named, agents, lines)),
-        (_, Some(scene)) => reason_of(refusal, named.verb, scene),
-        _ => None,
-    };
-    Some(Cell::Refused(named.verb, reason?))
-}
-
-/// Whether a refusal with the next number would fit too.
-fn both_fit(refusal: Refusal, named: &Named, scene: &Scene) -> bool
-    ensures { result ≡ both_fit refusal named.now.verb named.now.kind scene.now }
-{
-    match (refusal, named.verb, named.kind) {
-        (Refusal::Pending, Verb::Store, _) => !matches!(scene.state, State::UC | State::UD),
-        (Refusal::Pending, Verb::Drop, _) => !matches!(scene.state, State::UC | State::SC),
-        (Refusal::Pending, Verb::Issue, Some(kind)) => !kind.needs(scene.state),
-        (Refusal::NotWaiting, Verb::Start, _) => busy_reason(scene.serving).is_some(),
+/// The refusal before another one that would fit too, as what stood at the line shows.
+fn order_at_line(refusal: Refusal, step: &Step) -> Option<&'static str> {
+    let scene = &step.scene?;
+    let state = scene.state;
+    let would_fit = match (refusal, step.verb()) {
+        (Refusal::Pending, Verb::Store) => !state.is_unique(),
+        (Refusal::Pending, Verb::Drop) => !matches!(state, State::UC | State::SC),
+        (Refusal::Pending, Verb::Issue) => !step.kind()?.needs(state),
+        (Refusal::NotWaiting, Verb::Start) if scene.serving != Serving::Idle => {
+            return Some("6 before 5");
+        }
         _ => false,
-    }
+    };
+    if would_fit { Some("3 before 2") } else { None }
 }
 
-/// The cell of two refusals that fit.
-fn both_cell(refusal: Refusal, named: &Named, scene: &Scene) -> Option<Cell>
-    ensures { result ≡ both_cell refusal named.now scene.now }
-{
-    if both_fit(refusal, named, scene) {
-        Some(Cell::BothFit(named.verb))
-    } else {
-        None
+/// The same as the steps before show.
+fn order_by_past(refusal: Refusal, step: &Step, past: &Past) -> Option<&'static str> {
+    if step.verb() == Verb::Resend && refusal == Refusal::WrongState {
+        let credit = credit_type(step.config.profile(), step.scene?.pending?.kind);
+        let granted = past.account(step).has_unused_credit(credit);
+        return if granted { None } else { Some("2 before 12") };
     }
-}
-
-/// What a refusal for the copy's state says of the request's kind.
-fn kind_cell(refusal: Refusal, named: &Named, scene: &Scene) -> Option<Cell>
-    ensures { result ≡ kind_cell refusal named.now.verb named.now.kind scene.now }
-{
-    match (refusal, named.verb) {
-        (Refusal::WrongState, Verb::Issue) => Some(Cell::Issue(named.kind?, scene.state)),
-        (Refusal::WrongState, Verb::Resend) => {
-            let kind = scene.pending?.kind;
-            Some(Cell::Requester(RequesterCell::ResendRefused(kind, scene.state)))
-        }
-        (Refusal::WrongState, Verb::Cancel) => {
-            let kind = scene.pending?.kind;
-            Some(Cell::Requester(RequesterCell::CancelRefused(kind)))
-        }
+    let full = past.is_full(step);
+    match (refusal, step.verb()) {
+        (Refusal::WrongState, Verb::Load | Verb::Store) if full => Some("2 before 1"),
+        (Refusal::Pending, Verb::Store) if full => Some("3 before 1"),
         _ => None,
-    }
-}
-
-/// The cells of a refused command.
-pub(crate) fn refused_cells(
-    refusal: Refusal,
-    named: &Named,
-    agents: u8,
-    lines: u8,
-    before: &Option<Scene>,
-) -> [Option<Cell>; 3]
-    ensures { result ≡ refused_cells refusal named.now agents lines before.now }
-{
-    let refused = refused_cell(refusal, named, agents, lines, before);
-    match before {
-        Some(scene) => [
-            refused,
-            both_cell(refusal, named, scene),
-            kind_cell(refusal, named, scene),
-        ],
-        None => [refused, None, None],
     }
 }

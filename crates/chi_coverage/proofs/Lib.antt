@@ -1,6 +1,0 @@
-pub mod Counting
-pub mod Leading
-pub mod Placing
-pub mod Covering
-pub mod Reading
-mod Adding
