@@ -47,6 +47,8 @@ enum ChiAnswer {
     CHI_OutOfRange = 10, /* also of a number that is none of an enum's */
     CHI_NotOpen = 11,    /* never answered: the requesters of a node agree with its slices */
     CHI_NoCredit = 12,
+    CHI_NothingJudged = 245, /* of the close of an observer: nothing that it took was judged */
+    CHI_PartlyJudged = 246, /* of the close of an observer: some that it took wasn't judged */
     CHI_Full = 247,         /* of an observer: there is no room for what the flit would add */
     CHI_SetAside = 248,     /* of an observer: the flit is of a line that is set aside, and isn't judged */
     CHI_OtherVersion = 249, /* of a snapshot: it is of another version */
@@ -153,8 +155,9 @@ enum ChiReason {
 };
 
 /* The opcodes of flits as an observer is given them (docs/TRACES.md, "Traces" and "Other opcodes"). Loads and stores are
- * those of a processor. The last four stand for opcodes that CHI has and this enum hasn't: OtherAnswer for those of RSP and
- * DAT whose names begin with `Snp`, OtherReply for the others of these channels. */
+ * those of a processor. Those behind CHI_Op_OtherReply aren't judged. CHI_Op_OtherRequest to OtherReply stand for opcodes of a
+ * design's own, which aren't either: OtherAnswer for those of RSP and DAT whose names begin with `Snp`, OtherReply for the
+ * others of these channels. */
 enum ChiOpcode {
     CHI_Op_None = 0,
     CHI_Op_ReadNotSharedDirty = 1,
@@ -196,7 +199,45 @@ enum ChiOpcode {
     CHI_Op_OtherRequest = 37,
     CHI_Op_OtherSnoop = 38,
     CHI_Op_OtherAnswer = 39,
-    CHI_Op_OtherReply = 40
+    CHI_Op_OtherReply = 40,
+    CHI_Op_ReqLCrdReturn = 41,
+    CHI_Op_ReadNoSnp = 42,
+    CHI_Op_DVMOp = 43,
+    CHI_Op_WriteUniquePtl = 44,
+    CHI_Op_WriteBackPtl = 45,
+    CHI_Op_WriteNoSnpPtl = 46,
+    CHI_Op_WriteNoSnpFull = 47,
+    CHI_Op_WriteUniqueFullStash = 48,
+    CHI_Op_WriteUniquePtlStash = 49,
+    CHI_Op_StashOnceShared = 50,
+    CHI_Op_StashOnceUnique = 51,
+    CHI_Op_ReadOnceCleanInvalid = 52,
+    CHI_Op_ReadOnceMakeInvalid = 53,
+    CHI_Op_CleanSharedPersist = 54,
+    CHI_Op_AtomicStore = 55,
+    CHI_Op_AtomicLoad = 56,
+    CHI_Op_AtomicSwap = 57,
+    CHI_Op_AtomicCompare = 58,
+    CHI_Op_PrefetchTgt = 59,
+    CHI_Op_SnpLCrdReturn = 60,
+    CHI_Op_SnpUniqueStash = 61,
+    CHI_Op_SnpMakeInvalidStash = 62,
+    CHI_Op_SnpStashUnique = 63,
+    CHI_Op_SnpStashShared = 64,
+    CHI_Op_SnpDVMOp = 65,
+    CHI_Op_SnpSharedFwd = 66,
+    CHI_Op_SnpCleanFwd = 67,
+    CHI_Op_SnpOnceFwd = 68,
+    CHI_Op_SnpNotSharedDirtyFwd = 69,
+    CHI_Op_SnpUniqueFwd = 70,
+    CHI_Op_RespLCrdReturn = 71,
+    CHI_Op_DBIDResp = 72,
+    CHI_Op_ReadReceipt = 73,
+    CHI_Op_SnpRespFwded = 74,
+    CHI_Op_DataLCrdReturn = 75,
+    CHI_Op_SnpRespDataPtl = 76,
+    CHI_Op_SnpRespDataFwded = 77,
+    CHI_Op_WriteDataCancel = 78
 };
 
 /* What the Resp field of a flit holds: the state that is left or given, and `_PD` where the responsibility for the data
@@ -212,21 +253,6 @@ enum ChiResp {
     CHI_Resp_UC_PD = 7,
     CHI_Resp_UD_PD = 8,
     CHI_Resp_SD_PD = 9
-};
-
-/* What flits have told of a copy (docs/OBSERVER.md, "What is told of a copy"). */
-enum ChiTold {
-    CHI_Told_I = 0,
-    CHI_Told_SC = 1,
-    CHI_Told_SCOrI = 2,
-    CHI_Told_UC = 3,
-    CHI_Told_UCOrI = 4,
-    CHI_Told_UCE = 5,
-    CHI_Told_UCEOrI = 6,
-    CHI_Told_UCOrUCE = 7,
-    CHI_Told_UD = 8,
-    CHI_Told_SD = 9,
-    CHI_Told_Writing = 10
 };
 
 /* What an open id is named by (docs/OBSERVER.md, "Ids and credits"). */
@@ -530,19 +556,13 @@ uint8_t chi_node_slice_equal(ChiNode *node, uint8_t line, ChiSlice *slice, uint8
 /* Closes the handle, and frees the node. */
 uint8_t chi_node_close(ChiNode *node);
 
-/* The first flit that no run of the model sends. */
+/* The first flit that no run of the model sends; chi_monitor_text says why. */
 typedef struct {
-    uint8_t reason; /* ChiReason, CHI_NoReason where there is no fault */
+    uint64_t number; /* how many flits were taken before it, of all lines */
+    uint8_t reason;  /* ChiReason, CHI_NoReason where there is no fault */
+    uint8_t agent;   /* the flit's */
     uint8_t line;
-    uint8_t choice;       /* 1 where the reason rests on a choice of this profile, and not on the standard */
-    uint8_t other;        /* the agent that is to do something first, or has a copy too; CHI_Nobody where there is none */
-    uint8_t state;        /* ChiState: the last known one of the copy that the reason speaks of; 255 where there is none */
-    uint8_t told;         /* 1 where the flit of number `since` has told that */
-    uint64_t number;      /* how many flits were taken before it, of all lines */
-    uint64_t since;       /* how many were taken before the flit that has told it */
-    uint8_t differs[8];   /* 1 for each word of data that isn't what its sender has */
-    uint64_t expected[8]; /* what it has in these words */
-    ChiSent sent;         /* the flit */
+    uint8_t reserved[5];
 } ChiFault;
 
 /* What is open of an agent at a line: 1 where it is. */
@@ -618,6 +638,7 @@ typedef struct {
  *         CHI_Op_CompDBIDResp         dbid, and has_dbid has to be 1
  *         CHI_Op_SnpResp, SnpRespData, CopyBackWrData, NonCopyBackWrData  resp
  *         CHI_Op_OtherReply           dbid where has_dbid is 1
+ *     those of Issue B that aren't judged have the fields of CHI_Op_OtherRequest, OtherSnoop, OtherAnswer or OtherReply
  *         CompData, SnpRespData, CopyBackWrData, NonCopyBackWrData        mask, and words of which its bits are set
  *     CHI_Op_Load, Store              source, address, and the value in words[0]
  *
@@ -640,27 +661,14 @@ typedef struct {
     uint8_t reserved;
 } ChiSeen;
 
-/* The first flit that isn't taken. */
+/* The first flit that isn't taken; chi_observer_text says why. */
 typedef struct {
-    uint64_t number;      /* of the flit, as it was given; 0 where there is no fault */
-    uint64_t line;        /* the address of the first byte of its line of memory, where has_line is 1 */
-    uint64_t since;       /* the number of the flit that has told what the reason rests on, 0 where none has: it opened the
-                             id (1 to 11, and 25), was the line's first (12), told the copy of `told`, or the words (21) */
-    uint64_t expected[8]; /* of CHI_Fault_OtherWords: the words that are known, the flit's where they aren't; else 0 */
-    uint16_t node;        /* the requester that the flit is of or to */
-    uint16_t home;        /* the other node of the flit */
-    uint16_t other;       /* where has_other is 1: of CHI_Fault_OtherHome the line's home, of CHI_Fault_OtherCopy the first
-                             requester whose copy is in the way */
-    uint16_t id;          /* the number of the id that the reason rests on: of `form` */
-    uint8_t reason;       /* ChiObserverReason */
+    uint64_t number;  /* of the flit, as it was given; 0 where there is no fault */
+    uint64_t line;    /* the address of the first byte of its line of memory, where has_line is 1 */
+    uint16_t node;    /* the requester that the flit is of or to */
+    uint8_t reason;   /* ChiObserverReason */
     uint8_t has_line;
-    uint8_t has_other;
-    uint8_t form;         /* ChiIdForm of that id, CHI_Id_None where it rests on none */
-    uint8_t told;         /* ChiTold: what was told of the copy of `other` where CHI_Fault_OtherCopy, else of `node`; 255
-                             where the reason isn't one of its line (12 to 24) */
-    uint8_t differs;      /* of CHI_Fault_OtherWords: bit n is set where word n is another one */
-    uint8_t wanted;       /* of CHI_Fault_OtherType: the type that it has to be; else 255 */
-    uint8_t reserved;
+    uint8_t reserved[4];
 } ChiObserverFault;
 
 /* How much an observer has seen, and what it holds. */
@@ -682,6 +690,16 @@ typedef struct {
     uint8_t homes;         /* that are known */
     uint8_t reserved[2];
 } ChiObserverCounts;
+
+/* How much of what it was given an observer hasn't judged: of a line that is set aside nothing is, from the flit on that did it. */
+typedef struct {
+    uint64_t flits;       /* that weren't judged */
+    uint64_t of_flits;    /* of so many */
+    uint64_t lines;       /* of memory that were set aside */
+    uint64_t of_lines;    /* of so many that flits have touched */
+    uint64_t accesses;    /* loads and stores that weren't judged */
+    uint64_t of_accesses; /* of so many */
+} ChiUnjudged;
 
 /* An id that an observer holds. */
 typedef struct {
@@ -718,7 +736,7 @@ typedef struct {
 } ChiObserver;
 
 /* Opens an observer for so much, that has seen no flit. It takes all memory that it ever needs, but for what
- * chi_observer_text has meanwhile. CHI_AlreadyOpen of an open handle; CHI_OutOfRange where a size is outside its limits, or
+ * chi_observer_text and chi_observer_unjudged_text have meanwhile. CHI_AlreadyOpen of an open handle; CHI_OutOfRange where a size is outside its limits, or
  * `types`, `early_grants` or `stores` is none of theirs; CHI_NoMemory. */
 uint8_t chi_observer_open(ChiObserver *observer, const ChiObserverConfig *config);
 
@@ -735,7 +753,7 @@ uint8_t chi_observer_open(ChiObserver *observer, const ChiObserverConfig *config
  * - CHI_NoMemory: memory ran out, as it doesn't where all was taken at the opening; so too each flit behind that. */
 uint8_t chi_observer_take(ChiObserver *observer, const ChiSeen *seen);
 
-/* Tells the first fault. Where there is none all numbers are 0, but `told` and `wanted` 255. */
+/* Tells the first fault. Where there is none all numbers are 0. */
 uint8_t chi_observer_fault(ChiObserver *observer, ChiObserverFault *fault);
 
 /* Writes the first fault in words, as `chihome observe` prints it of a trace whose lines have the flits' numbers, without a
@@ -745,6 +763,13 @@ uint8_t chi_observer_text(ChiObserver *observer, uint8_t *bytes, size_t room, si
 
 /* Tells how much it has seen, and what it holds. */
 uint8_t chi_observer_counts(ChiObserver *observer, ChiObserverCounts *counts);
+
+/* Tells how much of what it was given isn't judged. */
+uint8_t chi_observer_unjudged(ChiObserver *observer, ChiUnjudged *unjudged);
+
+/* Writes what isn't judged, and why, as `chihome observe` prints it: lines, each with its end, without a 0 behind them; none
+ * where all is judged. `length` is how many bytes they are. CHI_JournalFull where there is not room for all; CHI_NoMemory. */
+uint8_t chi_observer_unjudged_text(ChiObserver *observer, uint8_t *bytes, size_t room, size_t *length);
 
 /* Tells the id of a place among those that it holds, from 0. CHI_OutOfRange behind their end. A place is an id's until the
  * next flit is taken. */
@@ -758,12 +783,8 @@ uint8_t chi_observer_account(ChiObserver *observer, uint32_t place, ChiAccount *
  * as it was. */
 uint8_t chi_observer_copy(ChiObserver *to, ChiObserver *from);
 
-/* Tells whether two observers are the same: 1 where they were opened for the same, their flits have told the same of each line,
- * by flits with the same numbers, ids and accounts are held in the same places, and the first fault is the same; else 0.
- * Nothing is done. CHI_Closed where one of them is closed. */
-uint8_t chi_observer_equal(ChiObserver *one, ChiObserver *other, uint8_t *equal);
-
-/* Closes the handle, and frees the observer. */
+/* Closes the handle, and frees the observer. CHI_NothingJudged where nothing that it took was judged, be it that it took nothing;
+ * CHI_PartlyJudged where some wasn't. It is closed then too. */
 uint8_t chi_observer_close(ChiObserver *observer);
 
 /* The version of the library, as CHI_VERSION. */
@@ -779,7 +800,6 @@ const char *chi_refusal_name(uint8_t answer);  /* ChiAnswer: "NoFlit", and "OK",
 const char *chi_reason_name(uint8_t reason);   /* ChiReason: "NobodyAsks" */
 const char *chi_opcode_name(uint8_t opcode);            /* ChiOpcode: "ReadShared" */
 const char *chi_resp_name(uint8_t resp);                /* ChiResp: "SC_PD" */
-const char *chi_told_name(uint8_t told);                /* ChiTold: "UCOrI" */
 const char *chi_id_form_name(uint8_t form);             /* ChiIdForm: "Buffer" */
 const char *chi_observer_reason_name(uint8_t reason);   /* ChiObserverReason: "NotOpen" */
 
@@ -809,17 +829,17 @@ CHI_LAYOUT(sizeof(ChiRecord) == 16 && offsetof(ChiRecord, word) == 3 && offsetof
 CHI_LAYOUT(sizeof(ChiArrival) == 3 && sizeof(ChiRelease) == 2);
 CHI_LAYOUT(sizeof(ChiCredits) == 16 && sizeof(ChiTotals) == 64 && offsetof(ChiTotals, owed) == 48);
 CHI_LAYOUT(sizeof(ChiAudit) == 24 && offsetof(ChiAudit, coherent) == 16);
-CHI_LAYOUT(sizeof(ChiFault) == 176 && offsetof(ChiFault, number) == 8 && offsetof(ChiFault, since) == 16);
-CHI_LAYOUT(offsetof(ChiFault, differs) == 24 && offsetof(ChiFault, expected) == 32 && offsetof(ChiFault, sent) == 96);
+CHI_LAYOUT(sizeof(ChiFault) == 16 && offsetof(ChiFault, reason) == 8 && offsetof(ChiFault, line) == 10);
 CHI_LAYOUT(sizeof(ChiOpen) == 5 && offsetof(ChiOpen, snoop) == 2 && offsetof(ChiOpen, write_data) == 4);
 CHI_LAYOUT(sizeof(ChiObserver) == 8 && sizeof(ChiObserverConfig) == 20 && offsetof(ChiObserverConfig, requesters) == 12);
 CHI_LAYOUT(offsetof(ChiObserverConfig, stores) == 16);
 CHI_LAYOUT(sizeof(ChiSeen) == 96 && offsetof(ChiSeen, words) == 16 && offsetof(ChiSeen, source) == 80);
 CHI_LAYOUT(offsetof(ChiSeen, opcode) == 88 && offsetof(ChiSeen, mask) == 94);
-CHI_LAYOUT(sizeof(ChiObserverFault) == 104 && offsetof(ChiObserverFault, expected) == 24);
-CHI_LAYOUT(offsetof(ChiObserverFault, node) == 88 && offsetof(ChiObserverFault, reason) == 96);
+CHI_LAYOUT(sizeof(ChiObserverFault) == 24 && offsetof(ChiObserverFault, line) == 8 && offsetof(ChiObserverFault, node) == 16);
+CHI_LAYOUT(offsetof(ChiObserverFault, reason) == 18 && offsetof(ChiObserverFault, has_line) == 19);
 CHI_LAYOUT(sizeof(ChiObserverCounts) == 80 && offsetof(ChiObserverCounts, ids) == 48);
 CHI_LAYOUT(offsetof(ChiObserverCounts, requesters) == 76);
+CHI_LAYOUT(sizeof(ChiUnjudged) == 48 && offsetof(ChiUnjudged, lines) == 16 && offsetof(ChiUnjudged, of_accesses) == 40);
 CHI_LAYOUT(sizeof(ChiOpenId) == 32 && offsetof(ChiOpenId, node) == 16 && offsetof(ChiOpenId, form) == 22);
 CHI_LAYOUT(sizeof(ChiAccount) == 56 && offsetof(ChiAccount, node) == 48 && offsetof(ChiAccount, credit) == 52);
 #undef CHI_LAYOUT

@@ -38,6 +38,8 @@ enum class Answer : std::uint8_t {
     OutOfRange = CHI_OutOfRange,
     NotOpen = CHI_NotOpen,
     NoCredit = CHI_NoCredit,
+    NothingJudged = CHI_NothingJudged,
+    PartlyJudged = CHI_PartlyJudged,
     Full = CHI_Full,
     SetAside = CHI_SetAside,
     OtherVersion = CHI_OtherVersion,
@@ -150,9 +152,9 @@ enum class Reason : std::uint8_t {
     OtherCredit = CHI_OtherCredit
 };
 
-/* The opcodes of flits as an observer is given them (docs/TRACES.md, "Traces" and "Other opcodes"); the last four stand for
- * opcodes that are none of these: OtherAnswer for those of RSP and DAT whose names begin with `Snp`, OtherReply for the others
- * of these channels. */
+/* The opcodes of flits as an observer is given them (docs/TRACES.md, "Traces" and "Other opcodes"). Those behind
+ * OtherReply aren't judged. OtherRequest to OtherReply stand for opcodes of a design's own, which aren't either: OtherAnswer for
+ * those of RSP and DAT whose names begin with `Snp`, OtherReply for the others of these channels. */
 enum class Opcode : std::uint8_t {
     None = CHI_Op_None,
     ReadNotSharedDirty = CHI_Op_ReadNotSharedDirty,
@@ -194,7 +196,45 @@ enum class Opcode : std::uint8_t {
     OtherRequest = CHI_Op_OtherRequest,
     OtherSnoop = CHI_Op_OtherSnoop,
     OtherAnswer = CHI_Op_OtherAnswer,
-    OtherReply = CHI_Op_OtherReply
+    OtherReply = CHI_Op_OtherReply,
+    ReqLCrdReturn = CHI_Op_ReqLCrdReturn,
+    ReadNoSnp = CHI_Op_ReadNoSnp,
+    DVMOp = CHI_Op_DVMOp,
+    WriteUniquePtl = CHI_Op_WriteUniquePtl,
+    WriteBackPtl = CHI_Op_WriteBackPtl,
+    WriteNoSnpPtl = CHI_Op_WriteNoSnpPtl,
+    WriteNoSnpFull = CHI_Op_WriteNoSnpFull,
+    WriteUniqueFullStash = CHI_Op_WriteUniqueFullStash,
+    WriteUniquePtlStash = CHI_Op_WriteUniquePtlStash,
+    StashOnceShared = CHI_Op_StashOnceShared,
+    StashOnceUnique = CHI_Op_StashOnceUnique,
+    ReadOnceCleanInvalid = CHI_Op_ReadOnceCleanInvalid,
+    ReadOnceMakeInvalid = CHI_Op_ReadOnceMakeInvalid,
+    CleanSharedPersist = CHI_Op_CleanSharedPersist,
+    AtomicStore = CHI_Op_AtomicStore,
+    AtomicLoad = CHI_Op_AtomicLoad,
+    AtomicSwap = CHI_Op_AtomicSwap,
+    AtomicCompare = CHI_Op_AtomicCompare,
+    PrefetchTgt = CHI_Op_PrefetchTgt,
+    SnpLCrdReturn = CHI_Op_SnpLCrdReturn,
+    SnpUniqueStash = CHI_Op_SnpUniqueStash,
+    SnpMakeInvalidStash = CHI_Op_SnpMakeInvalidStash,
+    SnpStashUnique = CHI_Op_SnpStashUnique,
+    SnpStashShared = CHI_Op_SnpStashShared,
+    SnpDVMOp = CHI_Op_SnpDVMOp,
+    SnpSharedFwd = CHI_Op_SnpSharedFwd,
+    SnpCleanFwd = CHI_Op_SnpCleanFwd,
+    SnpOnceFwd = CHI_Op_SnpOnceFwd,
+    SnpNotSharedDirtyFwd = CHI_Op_SnpNotSharedDirtyFwd,
+    SnpUniqueFwd = CHI_Op_SnpUniqueFwd,
+    RespLCrdReturn = CHI_Op_RespLCrdReturn,
+    DBIDResp = CHI_Op_DBIDResp,
+    ReadReceipt = CHI_Op_ReadReceipt,
+    SnpRespFwded = CHI_Op_SnpRespFwded,
+    DataLCrdReturn = CHI_Op_DataLCrdReturn,
+    SnpRespDataPtl = CHI_Op_SnpRespDataPtl,
+    SnpRespDataFwded = CHI_Op_SnpRespDataFwded,
+    WriteDataCancel = CHI_Op_WriteDataCancel
 };
 
 /* What the Resp field of a flit holds. */
@@ -209,21 +249,6 @@ enum class Resp : std::uint8_t {
     UC_PD = CHI_Resp_UC_PD,
     UD_PD = CHI_Resp_UD_PD,
     SD_PD = CHI_Resp_SD_PD
-};
-
-/* What flits have told of a copy (docs/OBSERVER.md, "What is told of a copy"). */
-enum class Told : std::uint8_t {
-    I = CHI_Told_I,
-    SC = CHI_Told_SC,
-    SCOrI = CHI_Told_SCOrI,
-    UC = CHI_Told_UC,
-    UCOrI = CHI_Told_UCOrI,
-    UCE = CHI_Told_UCE,
-    UCEOrI = CHI_Told_UCEOrI,
-    UCOrUCE = CHI_Told_UCOrUCE,
-    UD = CHI_Told_UD,
-    SD = CHI_Told_SD,
-    Writing = CHI_Told_Writing
 };
 
 /* What an open id is named by (docs/OBSERVER.md, "Ids and credits"). */
@@ -371,20 +396,13 @@ struct Stepped {
     std::optional<Sent> taken;
 };
 
-/* The first flit that no run of the model sends: why, of which line, and how many were taken before it, of all lines. The
- * reason may rest on a choice of the profile. It may name an agent that is to do something first, or has a copy too, the
- * last known state of the copy that it speaks of, and how many flits were taken before the one that told that; of data the
- * words that its sender has in place of those that differ. */
+/* The first flit that no run of the model sends: why, also as text, of which agent and line, and how many were taken before
+ * it, of all lines. */
 struct FirstFault {
     Reason reason = Reason::NoReason;
+    std::uint8_t agent = 0;
     std::uint8_t line = 0;
     std::uint64_t number = 0;
-    Sent sent;
-    bool is_choice = false;
-    std::optional<std::uint8_t> other;
-    std::optional<State> state;
-    std::optional<std::uint64_t> since;
-    std::array<std::optional<std::uint64_t>, 8> expected = {};
     std::string text;
 };
 
@@ -432,23 +450,13 @@ struct Seen {
     std::optional<std::uint64_t> number;
 };
 
-/* The first flit that an observer doesn't take: its number, its requester and its home, its line of memory where one is known,
- * and why, also as text. It may name another node, whose copy is in the way or which is the line's home; the id that the
- * reason rests on; what was told of the copy that it speaks of; the number of the flit that has told it; the credit type that
- * it has to be; and of data the words that are known in place of those that differ. */
+/* The first flit that an observer doesn't take: its number, its requester, its line of memory where one is known, and why, also
+ * as text. */
 struct ObserverFault {
     ObserverReason reason = ObserverReason::None;
     std::uint64_t number = 0;
     std::uint16_t node = 0;
-    std::uint16_t home = 0;
     std::optional<std::uint64_t> line;
-    std::optional<std::uint16_t> other;
-    IdForm form = IdForm::None;
-    std::optional<std::uint16_t> id;
-    std::optional<Told> told;
-    std::optional<std::uint64_t> since;
-    std::optional<std::uint8_t> wanted;
-    std::array<std::optional<std::uint64_t>, 8> expected = {};
     std::string text;
 };
 
@@ -456,6 +464,18 @@ struct ObserverFault {
 struct Aside {
     std::uint64_t line = 0;
     std::uint64_t number = 0;
+};
+
+/* How much of what it was given an observer hasn't judged: flits, lines of memory, and loads and stores, each of so many; and
+ * why, as text, which is empty where all is judged. */
+struct Unjudged {
+    std::uint64_t flits = 0;
+    std::uint64_t of_flits = 0;
+    std::uint64_t lines = 0;
+    std::uint64_t of_lines = 0;
+    std::uint64_t accesses = 0;
+    std::uint64_t of_accesses = 0;
+    std::string text;
 };
 
 /* How much an observer has seen: flits, of which data in beats are one, loads and stores, lines of memory, and those that were
@@ -794,16 +814,7 @@ inline std::optional<ObserverFault> fault(const ChiObserverFault &from) {
     to.reason = ObserverReason(from.reason);
     to.number = from.number;
     to.node = from.node;
-    to.home = from.home;
     if (from.has_line != 0) to.line = from.line;
-    if (from.has_other != 0) to.other = from.other;
-    to.form = IdForm(from.form);
-    if (from.form != CHI_Id_None) to.id = from.id;
-    if (from.told != CHI_Nobody) to.told = Told(from.told);
-    if (from.since != 0) to.since = from.since;
-    if (from.wanted != CHI_Nobody) to.wanted = from.wanted;
-    for (std::size_t word = 0; word < 8; word++)
-        if ((from.differs >> word & 1) != 0) to.expected[word] = from.expected[word];
     return to;
 }
 
@@ -1159,15 +1170,9 @@ class Monitor {
         if (told.reason != CHI_NoReason) {
             first.emplace();
             first->reason = Reason(told.reason);
+            first->agent = told.agent;
             first->line = told.line;
             first->number = told.number;
-            first->sent = *layout::sent(told.sent);
-            first->is_choice = told.choice != 0;
-            if (told.other != CHI_Nobody) first->other = told.other;
-            if (told.state != CHI_Nobody) first->state = State(told.state);
-            if (told.told != 0) first->since = told.since;
-            for (std::size_t word = 0; word < 8; word++)
-                if (told.differs[word] != 0) first->expected[word] = told.expected[word];
             first->text = text();
         }
         return layout::outcome(answer, std::move(first));
@@ -1216,13 +1221,13 @@ class Observer {
         : handle_(std::exchange(other.handle_, ChiObserver{nullptr})), last_(std::exchange(other.last_, 0)) {}
     Observer &operator=(Observer &&other) noexcept {
         if (this != &other) {
-            close();
+            static_cast<void>(close());
             handle_ = std::exchange(other.handle_, ChiObserver{nullptr});
             last_ = std::exchange(other.last_, 0);
         }
         return *this;
     }
-    ~Observer() { close(); }
+    ~Observer() { static_cast<void>(close()); }
 
     /* An observer for so much, that has seen no flit. OutOfRange where a size is outside its limits; NoMemory. */
     static Outcome<Observer> open(const ObserverConfig &config) {
@@ -1255,15 +1260,15 @@ class Observer {
 
     /* The first fault in words, as `chihome observe` prints it of a trace whose lines have the flits' numbers; empty where
      * there is none. */
-    std::string text() {
-        std::uint8_t bytes[1024];
-        std::size_t length = 0;
-        std::uint8_t answer = chi_observer_text(&handle_, bytes, sizeof bytes, &length);
-        if (answer == CHI_OK) return std::string(bytes, bytes + length);
-        if (answer != CHI_JournalFull) return "";
-        std::string longer(length, ' ');
-        answer = chi_observer_text(&handle_, reinterpret_cast<std::uint8_t *>(&longer[0]), longer.size(), &length);
-        return answer == CHI_OK ? longer : "";
+    std::string text() { return said(chi_observer_text); }
+
+    /* How much of what it was given isn't judged, and why, as `chihome observe` prints it. */
+    Outcome<Unjudged> unjudged() {
+        ChiUnjudged told;
+        const std::uint8_t answer = chi_observer_unjudged(&handle_, &told);
+        Unjudged all{told.flits, told.of_flits, told.lines, told.of_lines, told.accesses, told.of_accesses, ""};
+        if (answer == CHI_OK) all.text = said(chi_observer_unjudged_text);
+        return layout::outcome(answer, std::move(all));
     }
 
     /* How much it has seen, and what it holds. */
@@ -1293,26 +1298,28 @@ class Observer {
         return layout::outcome(answer, std::move(copied));
     }
 
-    /* Whether the observers are the same: what they were opened for, what their flits have told and by which numbers, the
-     * places of ids and accounts, and the first fault. Two closed ones are, and a closed one is the same as no open one. */
-    friend bool operator==(const Observer &one, const Observer &other) noexcept {
-        if (&one == &other || !one.is_open() || !other.is_open()) return one.is_open() == other.is_open();
-        std::uint8_t equal = 0;
-        chi_observer_equal(&one.handle_, &other.handle_, &equal);
-        return equal != 0;
-    }
-    friend bool operator!=(const Observer &one, const Observer &other) noexcept { return !(one == other); }
-
     bool is_open() const { return handle_.at != nullptr; }
 
-    /* Frees what is open. Closed where nothing is. */
-    Answer close() noexcept {
+    /* Frees what is open. NothingJudged where nothing that it took was judged, be it that it took nothing, and PartlyJudged where
+     * some wasn't: it is closed then too. Closed where nothing is open. */
+    [[nodiscard]] Answer close() noexcept {
         last_ = 0;
         return is_open() ? Answer(chi_observer_close(&handle_)) : Answer::Closed;
     }
 
   private:
-    mutable ChiObserver handle_ = {nullptr}; /* a copy and == leave it as it is, and may write it meanwhile */
+    std::string said(std::uint8_t (*call)(ChiObserver *, std::uint8_t *, std::size_t, std::size_t *)) {
+        std::uint8_t bytes[1024];
+        std::size_t length = 0;
+        std::uint8_t answer = call(&handle_, bytes, sizeof bytes, &length);
+        if (answer == CHI_OK) return std::string(bytes, bytes + length);
+        if (answer != CHI_JournalFull) return "";
+        std::string longer(length, ' ');
+        answer = call(&handle_, reinterpret_cast<std::uint8_t *>(&longer[0]), longer.size(), &length);
+        return answer == CHI_OK ? longer : "";
+    }
+
+    mutable ChiObserver handle_ = {nullptr}; /* a copy leaves it as it is, and may write it meanwhile */
     std::uint64_t last_ = 0; /* the number of the last flit that was taken */
 };
 
@@ -1326,7 +1333,6 @@ inline const char *name(Reason it) { return chi_reason_name(layout::number(it));
 inline const char *name(Answer it) { return chi_refusal_name(layout::number(it)); }
 inline const char *name(Opcode it) { return chi_opcode_name(layout::number(it)); }
 inline const char *name(Resp it) { return chi_resp_name(layout::number(it)); }
-inline const char *name(Told it) { return chi_told_name(layout::number(it)); }
 inline const char *name(IdForm it) { return chi_id_form_name(layout::number(it)); }
 inline const char *name(ObserverReason it) { return chi_observer_reason_name(layout::number(it)); }
 

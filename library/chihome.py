@@ -32,7 +32,7 @@ import itertools
 import os
 from ctypes import POINTER, byref, c_char_p, c_size_t, c_uint8, c_uint16, c_uint32, c_uint64, c_void_p
 from pathlib import Path
-from typing import Dict, FrozenSet, Iterator, List, NamedTuple, Optional, Sequence, Tuple, Union
+from typing import Callable, Dict, FrozenSet, Iterator, List, NamedTuple, Optional, Sequence, Tuple, Union
 
 
 # The numbers of chihome.h, without its CHI_.
@@ -54,6 +54,8 @@ class Answer(enum.IntEnum):
     OutOfRange = 10
     NotOpen = 11
     NoCredit = 12
+    NothingJudged = 245
+    PartlyJudged = 246
     Full = 247
     SetAside = 248
     OtherVersion = 249
@@ -183,9 +185,9 @@ class Reason(enum.IntEnum):
 
 
 class Opcode(enum.IntEnum):
-    """The opcodes of flits as an observer is given them (docs/TRACES.md, "Traces" and "Other opcodes"). The last four stand
-    for opcodes that are none of these: OtherAnswer for those of RSP and DAT whose names begin with `Snp`, OtherReply for the
-    others of these channels."""
+    """The opcodes of flits as an observer is given them (docs/TRACES.md, "Traces" and "Other opcodes"). Those behind
+    OtherReply aren't judged. OtherRequest to OtherReply stand for opcodes of a design's own, which aren't either: OtherAnswer
+    for those of RSP and DAT whose names begin with `Snp`, OtherReply for the others of these channels."""
 
     None_ = 0
     ReadNotSharedDirty = 1
@@ -228,6 +230,44 @@ class Opcode(enum.IntEnum):
     OtherSnoop = 38
     OtherAnswer = 39
     OtherReply = 40
+    ReqLCrdReturn = 41
+    ReadNoSnp = 42
+    DVMOp = 43
+    WriteUniquePtl = 44
+    WriteBackPtl = 45
+    WriteNoSnpPtl = 46
+    WriteNoSnpFull = 47
+    WriteUniqueFullStash = 48
+    WriteUniquePtlStash = 49
+    StashOnceShared = 50
+    StashOnceUnique = 51
+    ReadOnceCleanInvalid = 52
+    ReadOnceMakeInvalid = 53
+    CleanSharedPersist = 54
+    AtomicStore = 55
+    AtomicLoad = 56
+    AtomicSwap = 57
+    AtomicCompare = 58
+    PrefetchTgt = 59
+    SnpLCrdReturn = 60
+    SnpUniqueStash = 61
+    SnpMakeInvalidStash = 62
+    SnpStashUnique = 63
+    SnpStashShared = 64
+    SnpDVMOp = 65
+    SnpSharedFwd = 66
+    SnpCleanFwd = 67
+    SnpOnceFwd = 68
+    SnpNotSharedDirtyFwd = 69
+    SnpUniqueFwd = 70
+    RespLCrdReturn = 71
+    DBIDResp = 72
+    ReadReceipt = 73
+    SnpRespFwded = 74
+    DataLCrdReturn = 75
+    SnpRespDataPtl = 76
+    SnpRespDataFwded = 77
+    WriteDataCancel = 78
 
 
 class Resp(enum.IntEnum):
@@ -243,22 +283,6 @@ class Resp(enum.IntEnum):
     UC_PD = 7
     UD_PD = 8
     SD_PD = 9
-
-
-class Told(enum.IntEnum):
-    """What flits have told of a copy (docs/OBSERVER.md, "What is told of a copy")."""
-
-    I = 0
-    SC = 1
-    SCOrI = 2
-    UC = 3
-    UCOrI = 4
-    UCE = 5
-    UCEOrI = 6
-    UCOrUCE = 7
-    UD = 8
-    SD = 9
-    Writing = 10
 
 
 class IdForm(enum.IntEnum):
@@ -360,7 +384,8 @@ MostEnabled = 24
 
 
 class Refused(Exception):
-    """A call that was refused, with the `number` and the `name` of its refusal: nothing has changed."""
+    """A call that was refused, with the `number` and the `name` of its refusal: nothing has changed, but by the close of an
+    observer."""
 
     number: int = -1
     name: str = "?"
@@ -439,6 +464,18 @@ class NoCredit(Refused):
     """every seen credit of the type is reserved or there is none, or no request of the type was cancelled"""
 
     number, name = Answer.NoCredit, "NoCredit"
+
+
+class NothingJudged(Refused):
+    """the observer is closed, and nothing that it took was judged"""
+
+    number, name = Answer.NothingJudged, "NothingJudged"
+
+
+class PartlyJudged(Refused):
+    """the observer is closed, and some that it took wasn't judged"""
+
+    number, name = Answer.PartlyJudged, "PartlyJudged"
 
 
 class Full(Refused):
@@ -581,8 +618,7 @@ class _ChiNode(ctypes.Structure):
 
 
 class _ChiFault(ctypes.Structure):
-    _fields_ = [(it, c_uint8) for it in ("reason", "line", "choice", "other", "state", "told")] + [
-        ("number", c_uint64), ("since", c_uint64), ("differs", c_uint8 * 8), ("expected", c_uint64 * 8), ("sent", _ChiSent)]
+    _fields_ = [("number", c_uint64)] + [(it, c_uint8) for it in ("reason", "agent", "line")] + [("reserved", c_uint8 * 5)]
 
 
 class _ChiOpen(ctypes.Structure):
@@ -605,15 +641,18 @@ class _ChiSeen(ctypes.Structure):
 
 
 class _ChiObserverFault(ctypes.Structure):
-    _fields_ = [("number", c_uint64), ("line", c_uint64), ("since", c_uint64), ("expected", c_uint64 * 8)] + [
-        (it, c_uint16) for it in ("node", "home", "other", "id")] + [
-        (it, c_uint8) for it in ("reason", "has_line", "has_other", "form", "told", "differs", "wanted", "reserved")]
+    _fields_ = [("number", c_uint64), ("line", c_uint64), ("node", c_uint16), ("reason", c_uint8), ("has_line", c_uint8),
+                ("reserved", c_uint8 * 4)]
 
 
 class _ChiObserverCounts(ctypes.Structure):
     _fields_ = [(it, c_uint64) for it in ("flits", "accesses", "lines", "aside", "aside_number", "aside_line")] + [
         (it, c_uint32) for it in ("ids", "accounts", "requests", "completions", "snoops", "retried", "unsettled")] + [
         ("requesters", c_uint8), ("homes", c_uint8), ("reserved", c_uint8 * 2)]
+
+
+class _ChiUnjudged(ctypes.Structure):
+    _fields_ = [(it, c_uint64) for it in ("flits", "of_flits", "lines", "of_lines", "accesses", "of_accesses")]
 
 
 class _ChiOpenId(ctypes.Structure):
@@ -681,10 +720,11 @@ _CALLS = {
     "chi_observer_fault": (c_uint8, [_observer, POINTER(_ChiObserverFault)]),
     "chi_observer_text": (c_uint8, [_observer, _bytes, c_size_t, POINTER(c_size_t)]),
     "chi_observer_counts": (c_uint8, [_observer, POINTER(_ChiObserverCounts)]),
+    "chi_observer_unjudged": (c_uint8, [_observer, POINTER(_ChiUnjudged)]),
+    "chi_observer_unjudged_text": (c_uint8, [_observer, _bytes, c_size_t, POINTER(c_size_t)]),
     "chi_observer_opened": (c_uint8, [_observer, c_uint32, POINTER(_ChiOpenId)]),
     "chi_observer_account": (c_uint8, [_observer, c_uint32, POINTER(_ChiAccount)]),
     "chi_observer_copy": (c_uint8, [_observer, _observer]),
-    "chi_observer_equal": (c_uint8, [_observer, _observer, _count]),
     "chi_observer_close": (c_uint8, [_observer]),
     "chi_version": (c_char_p, []),
     "chi_step_name": (c_char_p, [c_uint8]),
@@ -696,7 +736,6 @@ _CALLS = {
     "chi_reason_text": (c_char_p, [c_uint8]),
     "chi_opcode_name": (c_char_p, [c_uint8]),
     "chi_resp_name": (c_char_p, [c_uint8]),
-    "chi_told_name": (c_char_p, [c_uint8]),
     "chi_id_form_name": (c_char_p, [c_uint8]),
     "chi_observer_reason_name": (c_char_p, [c_uint8]),
 }
@@ -820,22 +859,14 @@ class Stepped(NamedTuple):
 
 
 class FirstFault(NamedTuple):
-    """The first flit that no run of the model sends: of which line, how many were taken before it, and why, also as text.
-
-    The reason may rest on a choice of the profile. It may name an agent that is to do something first, or has a copy too,
-    the last known state of the copy that it speaks of, and how many flits were taken before the one that told that; of
-    data it has the words of its sender by the places of those that differ."""
+    """The first flit that no run of the model sends: of which agent and line, how many were taken before it, and why, also as
+    text."""
 
     reason: Reason
+    agent: int
     line: int
     number: int
-    sent: Sent
     text: str
-    is_choice: bool = False
-    other: Optional[int] = None
-    state: Optional[State] = None
-    since: Optional[int] = None
-    expected: Dict[int, int] = {}
 
 
 class Open(NamedTuple):
@@ -884,26 +915,14 @@ class Seen(NamedTuple):
 
 
 class ObserverFault(NamedTuple):
-    """The first flit that an observer doesn't take: its number, its requester and its home, its line of memory where one is
-    known, and why, also as text.
-
-    It may name another node, whose copy is in the way or which is the line's home; the id that the reason rests on; what
-    was told of the copy that it speaks of; the number of the flit that has told it; the credit type that it has to be; and
-    of data the words that are known by the places of those that differ."""
+    """The first flit that an observer doesn't take: its number, its requester, its line of memory where one is known, and why,
+    also as text."""
 
     reason: ObserverReason
     number: int
     node: int
-    home: int
     line: Optional[int]
     text: str
-    other: Optional[int] = None
-    form: IdForm = IdForm.None_
-    id: Optional[int] = None
-    told: Optional[Told] = None
-    since: Optional[int] = None
-    wanted: Optional[int] = None
-    expected: Dict[int, int] = {}
 
 
 class Aside(NamedTuple):
@@ -937,6 +956,19 @@ class ObserverCounts(NamedTuple):
     def is_complete(self) -> bool:
         """Whether nothing is open, as it should be at the end of a run."""
         return not any((self.requests, self.completions, self.snoops, self.retried, self.unsettled))
+
+
+class Unjudged(NamedTuple):
+    """How much of what it was given an observer hasn't judged: flits, lines of memory, and loads and stores, each of so many;
+    and why, as text, which is empty where all is judged."""
+
+    flits: int
+    of_flits: int
+    lines: int
+    of_lines: int
+    accesses: int
+    of_accesses: int
+    text: str
 
 
 class OpenId(NamedTuple):
@@ -1498,11 +1530,7 @@ class Monitor(_Handle):
         _check(self._calls.chi_monitor_fault(byref(self._handle), byref(told)))
         if not told.reason:
             return None
-        expected = {word: told.expected[word] for word in range(8) if told.differs[word]}
-        return FirstFault(
-            Reason(told.reason), told.line, told.number, _sent_in(told.sent), self._text(), bool(told.choice),
-            None if told.other == 255 else told.other, None if told.state == 255 else State(told.state),
-            told.since if told.told else None, expected)
+        return FirstFault(Reason(told.reason), told.agent, told.line, told.number, self._text())
 
     def _text(self) -> str:
         """Why no run of the model sends the flit of the first fault, in words."""
@@ -1552,17 +1580,6 @@ class Observer(_Handle):
         _check(self._calls.chi_observer_copy(byref(copied._handle), byref(self._handle)))
         return copied
 
-    def __eq__(self, other: object) -> bool:
-        """Whether the observers are the same: what they were opened for, what their flits have told and by which numbers, the
-        places of ids and accounts, and the first fault. `Closed` where one of them is closed, but of an observer and itself."""
-        if not isinstance(other, Observer):
-            return NotImplemented
-        if self is other:
-            return True
-        equal = c_uint8()
-        _check(self._calls.chi_observer_equal(byref(self._handle), byref(other._handle), byref(equal)))
-        return bool(equal.value)
-
     def take(self, seen: Seen) -> bool:
         """Takes the next flit; False where its line is set aside, by it or before it, and so isn't judged.
 
@@ -1582,22 +1599,39 @@ class Observer(_Handle):
         _check(self._calls.chi_observer_fault(byref(self._handle), byref(told)))
         if not told.reason:
             return None
-        expected = {word: told.expected[word] for word in range(8) if told.differs >> word & 1}
-        return ObserverFault(
-            ObserverReason(told.reason), told.number, told.node, told.home, told.line if told.has_line else None,
-            self._text(), told.other if told.has_other else None, IdForm(told.form), told.id if told.form else None,
-            None if told.told == 255 else Told(told.told), told.since or None,
-            None if told.wanted == 255 else told.wanted, expected)
+        line = told.line if told.has_line else None
+        return ObserverFault(ObserverReason(told.reason), told.number, told.node, line, self._text())
 
     def _text(self) -> str:
         """The first fault in words, as `chihome observe` prints it of a trace whose lines have the flits' numbers."""
+        return self._said(self._calls.chi_observer_text)
+
+    def _said(self, call: Callable[..., int]) -> str:
         length = c_size_t()
-        answer = self._calls.chi_observer_text(byref(self._handle), (c_uint8 * 1)(), 0, byref(length))
+        answer = call(byref(self._handle), (c_uint8 * 1)(), 0, byref(length))
         if answer != Answer.JournalFull:
             _check(answer)
         room = (c_uint8 * max(length.value, 1))()
-        _check(self._calls.chi_observer_text(byref(self._handle), room, length, byref(length)))
+        _check(call(byref(self._handle), room, length, byref(length)))
         return bytes(room[:length.value]).decode()
+
+    def unjudged(self) -> Unjudged:
+        """How much of what it was given isn't judged, and why, as `chihome observe` prints it."""
+        told = _ChiUnjudged()
+        _check(self._calls.chi_observer_unjudged(byref(self._handle), byref(told)))
+        text = self._said(self._calls.chi_observer_unjudged_text)
+        return Unjudged(told.flits, told.of_flits, told.lines, told.of_lines, told.accesses, told.of_accesses, text)
+
+    def close(self, allowed: bool = False) -> None:
+        """Frees it; a second close does nothing. `NothingJudged` where nothing that it took was judged, be it that it took
+        nothing, and `PartlyJudged` where some wasn't: the observer is closed then too. Neither is raised where that is
+        `allowed`, and none at the end of a `with` that an exception ends."""
+        answer = Answer(self._close()) if self._handle.at else Answer.OK
+        if not allowed:
+            _check(answer)
+
+    def __exit__(self, kind, *_) -> None:
+        self.close(allowed=kind is not None)
 
     def counts(self) -> ObserverCounts:
         """How much it has seen, and what it holds."""

@@ -40,11 +40,15 @@ static const char *const OPCODES[] = {"None", "ReadNotSharedDirty", "ReadShared"
     "WriteEvictFull", "WriteUniqueFull", "PCrdReturn", "SnpOnce", "SnpClean", "SnpShared", "SnpNotSharedDirty",
     "SnpCleanShared", "SnpUnique", "SnpCleanInvalid", "SnpMakeInvalid", "RetryAck", "Comp", "CompDBIDResp", "PCrdGrant",
     "SnpResp", "CompAck", "CompData", "SnpRespData", "CopyBackWrData", "NonCopyBackWrData", "Load", "Store",
-    "OtherRequest", "OtherSnoop", "OtherAnswer", "OtherReply"};
+    "OtherRequest", "OtherSnoop", "OtherAnswer", "OtherReply",
+    "ReqLCrdReturn", "ReadNoSnp", "DVMOp", "WriteUniquePtl", "WriteBackPtl", "WriteNoSnpPtl", "WriteNoSnpFull",
+    "WriteUniqueFullStash", "WriteUniquePtlStash", "StashOnceShared", "StashOnceUnique", "ReadOnceCleanInvalid",
+    "ReadOnceMakeInvalid", "CleanSharedPersist", "AtomicStore", "AtomicLoad", "AtomicSwap", "AtomicCompare",
+    "PrefetchTgt", "SnpLCrdReturn", "SnpUniqueStash", "SnpMakeInvalidStash", "SnpStashUnique", "SnpStashShared",
+    "SnpDVMOp", "SnpSharedFwd", "SnpCleanFwd", "SnpOnceFwd", "SnpNotSharedDirtyFwd", "SnpUniqueFwd", "RespLCrdReturn",
+    "DBIDResp", "ReadReceipt", "SnpRespFwded", "DataLCrdReturn", "SnpRespDataPtl", "SnpRespDataFwded", "WriteDataCancel"};
 
 static const char *const RESPS[] = {"I", "SC", "UC", "UD", "SD", "I_PD", "SC_PD", "UC_PD", "UD_PD", "SD_PD"};
-
-static const char *const TOLDS[] = {"I", "SC", "SCOrI", "UC", "UCOrI", "UCE", "UCEOrI", "UCOrUCE", "UD", "SD", "Writing"};
 
 static const char *const ID_FORMS[] = {"None", "Request", "Buffer", "Snoop", "Retried"};
 
@@ -70,6 +74,8 @@ const char *chi_message_name(uint8_t message) { return NAME_IN(MESSAGES, message
 const char *chi_state_name(uint8_t state) { return NAME_IN(STATES, state); }
 
 const char *chi_refusal_name(uint8_t answer) {
+    if (answer == CHI_NothingJudged) return "NothingJudged";
+    if (answer == CHI_PartlyJudged) return "PartlyJudged";
     if (answer == CHI_Full) return "Full";
     if (answer == CHI_SetAside) return "SetAside";
     if (answer == CHI_OtherVersion) return "OtherVersion";
@@ -89,8 +95,6 @@ const char *chi_reason_text(uint8_t reason) { return NAME_IN(REASON_TEXTS, reaso
 const char *chi_opcode_name(uint8_t opcode) { return NAME_IN(OPCODES, opcode); }
 
 const char *chi_resp_name(uint8_t resp) { return NAME_IN(RESPS, resp); }
-
-const char *chi_told_name(uint8_t told) { return NAME_IN(TOLDS, told); }
 
 const char *chi_id_form_name(uint8_t form) { return NAME_IN(ID_FORMS, form); }
 

@@ -132,4 +132,5 @@ int main(int count, char **words) {
     const ObserverCounts counts = *observer.counts();
     std::printf("%llu flits on %llu lines are taken, and %u ids are open\n", static_cast<unsigned long long>(counts.flits),
                 static_cast<unsigned long long>(counts.lines), counts.requests + counts.completions + counts.snoops);
+    return observer.close() == Answer::OK ? 0 : 1;
 }

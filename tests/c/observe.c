@@ -1,6 +1,7 @@
 /* Observes a trace by the library's calls, and prints what `chihome observe` prints of it, with its status.
  *
  *     observe FILE [--types two|four|any] [--stores hidden|listed] [--early-grants] [--complete]
+ *             [--opcodes any] [--unjudged allowed]
  */
 #include "chihome.h"
 #include "trace.h"
@@ -33,19 +34,29 @@ static void print_open(const ChiObserverCounts *counts) {
     }
 }
 
-static int print_end(int complete) {
+/* What isn't judged, as lines. */
+static int print_unjudged(void) {
+    static uint8_t bytes[65536];
+    size_t length;
+    if (chi_observer_unjudged_text(&observer, bytes, sizeof bytes, &length) != CHI_OK) return 0;
+    printf("%.*s", (int)length, (const char *)bytes);
+    return 1;
+}
+
+static int print_end(int complete, int allowed) {
     ChiObserverCounts counts;
-    if (chi_observer_counts(&observer, &counts) != CHI_OK) return 1;
+    ChiUnjudged not_judged;
+    if (chi_observer_counts(&observer, &counts) != CHI_OK || chi_observer_unjudged(&observer, &not_judged) != CHI_OK) return 1;
     if ((counts.flits | counts.accesses) == 0) {
         printf("no flit, load or store is in the trace\n");
         return 8;
     }
-    printf("accepted %" PRIu64 " flits on %" PRIu64 " lines\n", counts.flits, counts.lines);
-    if (counts.accesses > 0) printf("accepted %" PRIu64 " loads and stores\n", counts.accesses);
-    if (counts.aside > 0)
-        printf("set aside: %" PRIu64 " lines, the first at %" PRIx64 " by line %" PRIu64 "\n", counts.aside, counts.aside_line,
-               counts.aside_number);
+    uint64_t flits = not_judged.of_flits - not_judged.flits, accesses = not_judged.of_accesses - not_judged.accesses;
+    if (!print_unjudged()) return 1;
+    printf("accepted %" PRIu64 " flits on %" PRIu64 " cache lines\n", flits, not_judged.of_lines - not_judged.lines);
+    if (accesses > 0) printf("accepted %" PRIu64 " loads and stores\n", accesses);
     print_open(&counts);
+    if (!allowed && (not_judged.flits | not_judged.accesses) != 0) return (flits | accesses) == 0 ? 8 : 9;
     uint32_t open = counts.requests | counts.completions | counts.snoops | counts.retried | counts.unsettled;
     return complete && open != 0 ? 7 : 0;
 }
@@ -61,7 +72,7 @@ static int print_fault(uint64_t number) {
 }
 
 /* Gives the observer each flit of the file, up to the first fault. */
-static int observe(FILE *file, int complete) {
+static int observe(FILE *file, int complete, int allowed) {
     static char line[LINE];
     ChiSeen seen;
     for (uint64_t number = 1; fgets(line, sizeof line, file) != NULL; number++) {
@@ -72,14 +83,15 @@ static int observe(FILE *file, int complete) {
         printf("line %" PRIu64 ": %s\n", number, chi_refusal_name(answer));
         return 1;
     }
-    return print_end(complete);
+    return print_end(complete, allowed);
 }
 
 int main(int count, char **words) {
     ChiObserverConfig config = {.lines = 4096, .ids = 4096, .accounts = 1024, .requesters = 32, .homes = 255};
-    int complete = 0;
+    int complete = 0, allowed = 0;
     for (int word = 2; word < count; word++) {
         complete |= strcmp(words[word], "--complete") == 0;
+        allowed |= strcmp(words[word], "allowed") == 0;
         config.early_grants |= strcmp(words[word], "--early-grants") == 0;
         if (strcmp(words[word], "two") == 0) config.types = 2;
         if (strcmp(words[word], "four") == 0) config.types = 4;
@@ -87,7 +99,9 @@ int main(int count, char **words) {
     }
     FILE *file = count > 1 ? fopen(words[1], "r") : NULL;
     if (file == NULL || chi_observer_open(&observer, &config) != CHI_OK) return 2;
-    int status = observe(file, complete);
+    int status = observe(file, complete, allowed);
     fclose(file);
-    return chi_observer_close(&observer) == CHI_OK ? status : 2;
+    uint8_t closed = chi_observer_close(&observer);
+    if (status == 8 || status == 9) return closed == (status == 8 ? CHI_NothingJudged : CHI_PartlyJudged) ? status : 2;
+    return status == 6 || allowed || closed == CHI_OK ? status : 2;
 }

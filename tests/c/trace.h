@@ -38,16 +38,25 @@ static uint8_t named(const char *(*name_of)(uint8_t), const char *name, uint8_t 
     return other;
 }
 
-/* The opcode of a name on a channel; where there is none of that name what stands for it. */
+/* The opcode of a name on a channel: one that is judged, one of Issue B that isn't, or what stands for a design's own. */
 static uint8_t opcode_in(const char *channel, const char *name) {
-    uint8_t response = strncmp(name, "Snp", 3) == 0 ? CHI_Op_OtherAnswer : CHI_Op_OtherReply;
-    if (strcmp(channel, "REQ") == 0)
-        return named(chi_opcode_name, name, CHI_Op_ReadNotSharedDirty, CHI_Op_PCrdReturn, CHI_Op_OtherRequest);
-    if (strcmp(channel, "SNP") == 0)
-        return named(chi_opcode_name, name, CHI_Op_SnpOnce, CHI_Op_SnpMakeInvalid, CHI_Op_OtherSnoop);
-    if (strcmp(channel, "RSP") == 0) return named(chi_opcode_name, name, CHI_Op_RetryAck, CHI_Op_CompAck, response);
-    if (strcmp(channel, "DAT") == 0) return named(chi_opcode_name, name, CHI_Op_CompData, CHI_Op_NonCopyBackWrData, response);
-    return named(chi_opcode_name, name, CHI_Op_Load, CHI_Op_Store, CHI_Op_None);
+    static const struct {
+        const char *channel;
+        uint8_t first, last, first_unjudged, last_unjudged, own;
+    } RANGES[] = {
+        {"REQ", CHI_Op_ReadNotSharedDirty, CHI_Op_PCrdReturn, CHI_Op_ReqLCrdReturn, CHI_Op_PrefetchTgt, CHI_Op_OtherRequest},
+        {"SNP", CHI_Op_SnpOnce, CHI_Op_SnpMakeInvalid, CHI_Op_SnpLCrdReturn, CHI_Op_SnpUniqueFwd, CHI_Op_OtherSnoop},
+        {"RSP", CHI_Op_RetryAck, CHI_Op_CompAck, CHI_Op_RespLCrdReturn, CHI_Op_SnpRespFwded, CHI_Op_OtherReply},
+        {"DAT", CHI_Op_CompData, CHI_Op_NonCopyBackWrData, CHI_Op_DataLCrdReturn, CHI_Op_WriteDataCancel, CHI_Op_OtherReply},
+        {"CPU", CHI_Op_Load, CHI_Op_Store, CHI_Op_Load, CHI_Op_Store, CHI_Op_None}};
+    for (size_t place = 0; place < sizeof RANGES / sizeof *RANGES; place++) {
+        if (strcmp(RANGES[place].channel, channel) != 0) continue;
+        uint8_t own = RANGES[place].own;
+        if (own == CHI_Op_OtherReply && strncmp(name, "Snp", 3) == 0) own = CHI_Op_OtherAnswer;
+        own = named(chi_opcode_name, name, RANGES[place].first_unjudged, RANGES[place].last_unjudged, own);
+        return named(chi_opcode_name, name, RANGES[place].first, RANGES[place].last, own);
+    }
+    return CHI_Op_None;
 }
 
 /* The words of data, between commas or as one number of 128 digits, and which of them are there. */

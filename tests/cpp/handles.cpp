@@ -170,9 +170,8 @@ static void monitor() {
     snoop.message = Message::SnpShared;
     HOLDS(watched.flit(0, 1, snoop) == Answer::Fault);
     const auto fault = **watched.fault();
-    HOLDS(fault.reason == Reason::NobodyAsks && fault.number == 3 && fault.sent.agent == 1 && fault.is_choice && !fault.since);
+    HOLDS(fault.reason == Reason::NobodyAsks && fault.number == 3 && fault.agent == 1 && fault.line == 0);
     HOLDS(fault.text == "this profile: no request that waits asks for SnpShared of it now" && watched.text() == fault.text);
-    HOLDS(fault.sent.flit.message == Message::SnpShared && fault.sent.channel == Channel::Snp);
     closed = std::move(watched);
     HOLDS(closed.is_open() && !watched.is_open() && closed.close() == Answer::OK);
 }

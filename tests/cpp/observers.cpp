@@ -78,9 +78,8 @@ static void copies() {
     HOLDS(take(observer, "REQ 8 40 1 ReadShared 1040 - - 1 - -") == Answer::OK);
     Observer copy = *static_cast<const Observer &>(observer).copy();
     HOLDS(copy.is_open() && observer.is_open() && copy.counts()->requests == 1);
-    HOLDS(copy == observer && observer == observer && copy != closed && closed == Observer());
     HOLDS(take(copy, "DAT 40 8 1 CompData - SC 11 - - 1,2,3,4,5,6,7,8") == Answer::OK && copy.opened(0)->since == 2);
-    HOLDS(copy != observer && observer.counts()->requests == 1 && observer.opened(0)->form == IdForm::Request);
+    HOLDS(observer.counts()->requests == 1 && observer.opened(0)->form == IdForm::Request);
     HOLDS(take(observer, "RSP 40 8 9 RetryAck - - - - 0 -") == Answer::Fault && (*observer.copy()->fault())->number == 2);
     HOLDS(!*copy.fault() && copy.close() == Answer::OK);
 }
@@ -106,6 +105,12 @@ static void answers() {
     const Account account = *observer.account(0);
     HOLDS(account.node == 9 && account.home == 0x40 && account.credit == 2 && account.promised == 1 && account.owed == 1);
     HOLDS(observer.account(1).answer() == Answer::OutOfRange && observer.counts()->unsettled == 1);
+    const Unjudged unjudged = *observer.unjudged();
+    HOLDS(unjudged.flits == 1 && unjudged.of_flits == observer.counts()->flits && unjudged.accesses == 0);
+    HOLDS(unjudged.lines == 1 && unjudged.of_lines == 2 && unjudged.text.find("\nAtomicStore: 1 cache lines, ") != std::string::npos);
+    HOLDS(observer.close() == Answer::PartlyJudged && observer.unjudged().answer() == Answer::Closed);
+    Observer unused = *Observer::open(sizes(8));
+    HOLDS(unused.unjudged()->text.empty() && unused.close() == Answer::NothingJudged && !unused.is_open());
 }
 
 static void faults() {
@@ -115,19 +120,17 @@ static void faults() {
         HOLDS(take(observer, line) == Answer::OK);
     HOLDS(take(observer, "DAT 40 9 1 CompData - UC 11 - - 5,0,0,0,0,0,0,7") == Answer::Fault);
     const ObserverFault fault = **observer.fault();
-    HOLDS(fault.reason == ObserverReason::OtherCopy && fault.number == 5 && fault.node == 9 && fault.home == 0x40);
-    HOLDS(fault.line == 0x1040 && fault.other == 8 && fault.told == Told::UC && fault.since == 2);
-    HOLDS(fault.form == IdForm::None && !fault.id && !fault.wanted && !fault.expected[0]);
+    HOLDS(fault.reason == ObserverReason::OtherCopy && fault.number == 5 && fault.node == 9 && fault.line == 0x1040);
     HOLDS(fault.text == observer.text() && fault.text.rfind("line 5: CompData_UC to node 9 at 1040: the copy of node 8", 0) == 0);
     HOLDS(take(observer, "REQ 8 40 2 ReadUnique 1080 - - 1 - -") == Answer::Fault && (*observer.fault())->number == 5);
     Observer other = *Observer::open(sizes(8));
     HOLDS(take(other, "REQ 8 40 1 ReadUnique 1040 - - 1 - -") == Answer::OK);
     HOLDS(take(other, "RSP 8 40 3 CompAck - - - - - -") == Answer::Fault);
     const ObserverFault id = **other.fault();
-    HOLDS(id.reason == ObserverReason::NotOpen && id.form == IdForm::Buffer && id.id == 3 && !id.line && !id.told);
-    HOLDS(std::strcmp(name(id.reason), "NotOpen") == 0 && std::strcmp(name(id.form), "Buffer") == 0);
+    HOLDS(id.reason == ObserverReason::NotOpen && id.number == 2 && id.node == 8 && !id.line);
+    HOLDS(std::strcmp(name(id.reason), "NotOpen") == 0 && std::strcmp(name(IdForm::Buffer), "Buffer") == 0);
     HOLDS(std::strcmp(name(Opcode::SnpOnce), "SnpOnce") == 0 && std::strcmp(name(Resp::SD_PD), "SD_PD") == 0);
-    HOLDS(std::strcmp(name(Told::UCOrUCE), "UCOrUCE") == 0 && std::strcmp(name(Answer::Full), "Full") == 0);
+    HOLDS(std::strcmp(name(Answer::Full), "Full") == 0);
 }
 
 /* Where stores are listed a clean copy has none. */
@@ -161,8 +164,11 @@ static void observe(const char *file) {
         if (observer.take(flit) == Answer::Fault) return (void)std::printf("%s\n", observer.text().c_str());
     }
     const ObserverCounts counts = *observer.counts();
+    const Unjudged unjudged = *observer.unjudged();
+    const std::string left_out = unjudged.text.substr(0, unjudged.text.find('\n'));
     if ((counts.flits | counts.accesses) == 0) std::printf("no flit, load or store is in the trace\n");
-    else std::printf("accepted %" PRIu64 " flits on %" PRIu64 " lines\n", counts.flits, counts.lines);
+    else if (!left_out.empty()) std::printf("%s\n", left_out.c_str());
+    else std::printf("accepted %" PRIu64 " flits on %" PRIu64 " cache lines\n", counts.flits, counts.lines);
 }
 
 int main(int count, char **words) {

@@ -24,7 +24,9 @@ sys.path.insert(0, str(TOP / "library"))
 import chihome  # noqa: E402
 from chihome import IdForm, Opcode, Resp, Seen, Stores  # noqa: E402
 
-CHANNELS = {"REQ": range(1, 17), "SNP": range(17, 25), "RSP": range(25, 31), "DAT": range(31, 35), "CPU": range(35, 37)}
+# The numbers of the opcodes of a channel that are judged, and of those of Issue B that aren't; and what stands for others.
+CHANNELS = {"REQ": [*range(1, 17), *range(41, 60)], "SNP": [*range(17, 25), *range(60, 71)], "RSP": [*range(25, 31), *range(71, 75)],
+            "DAT": [*range(31, 35), *range(75, 79)], "CPU": [35, 36]}
 OTHERS = {"REQ": Opcode.OtherRequest, "SNP": Opcode.OtherSnoop}
 LACKS = {IdForm.Request: "without its completion", IdForm.Buffer: "without CompAck or write data",
          IdForm.Snoop: "without its answer", IdForm.Retried: "not sent again or cancelled"}
@@ -46,14 +48,14 @@ def number_or_none(word, digits=16):
     return None if word == "-" else number(word, digits)
 
 
-def opcode(channel, name):
-    """The opcode of a name on a channel, or what stands for it."""
+def opcode(channel, name, own):
+    """The opcode of a name on a channel, or what stands for one of a design's own, where there may be such."""
     if channel not in CHANNELS:
         raise NoTrace(channel)
     known = {Opcode(it).name: Opcode(it) for it in CHANNELS[channel]}
     if name in known:
         return known[name]
-    if channel == "CPU" or not re.fullmatch(r"[A-Z][A-Za-z0-9]*", name):
+    if not own or channel == "CPU" or not re.fullmatch(r"[A-Z][A-Za-z0-9]*", name):
         raise NoTrace(name)
     return OTHERS.get(channel) or (Opcode.OtherAnswer if name.startswith("Snp") else Opcode.OtherReply)
 
@@ -93,14 +95,14 @@ class Columns(NamedTuple):
     data: str
 
 
-def flit_in(line, place):
-    """The flit of a line, or None where it has none."""
+def flit_in(line, place, own):
+    """The flit of a line, or None where it has none; with opcodes of a design's `own`, or without."""
     if not line.split() or line.split()[0].startswith("#"):
         return None
     if len(line.split()) < 11:
         raise NoTrace(line)
     its = Columns(*line.split()[:11])
-    code = opcode(its.channel, its.opcode)
+    code = opcode(its.channel, its.opcode, own)
     if its.channel == "CPU":
         return Seen(code, number(its.source, 4), address=number(its.address), words=[number(its.data)], number=place)
     named = {"source": number(its.source, 4), "target": number(its.target, 4), "number": place}
@@ -123,10 +125,10 @@ def told(code, its):
         return {"credit": number(its.credit, 1)}
     if code == Opcode.CompDBIDResp:
         return {"dbid": number(its.dbid, 4)}
-    if code in (Opcode.OtherAnswer, Opcode.CompAck):
+    if code == Opcode.CompAck:
         return {}
-    if code == Opcode.OtherReply:
-        return {"dbid": number_or_none(its.dbid, 4)}
+    if code >= Opcode.OtherAnswer:
+        return {} if its.opcode.startswith("Snp") else {"dbid": number_or_none(its.dbid, 4)}
     fields = {"resp": resp(its.resp)}
     if code == Opcode.CompData or (code == Opcode.Comp and fields["resp"] == Resp.UC):
         fields["dbid"] = number_or_none(its.dbid, 4)
@@ -147,36 +149,52 @@ def opened(observer):
             yield f"open: credits of type {it.credit:x} of node {it.node:x}: {it.owed} owed, {it.unused} unused"
 
 
-def ended(observer, complete):
+def ended(observer, complete, allowed):
     """The status and the lines on a trace whose flits are all taken."""
-    counts = observer.counts()
+    counts, unjudged = observer.counts(), observer.unjudged()
     if not counts.flits and not counts.accesses:
         return 8, ["no flit, load or store is in the trace"]
-    lines = [f"accepted {counts.flits} flits on {counts.lines} lines"]
-    if counts.accesses:
-        lines.append(f"accepted {counts.accesses} loads and stores")
-    if counts.first_aside:
-        first = counts.first_aside
-        lines.append(f"set aside: {counts.aside} lines, the first at {first.line:x} by line {first.number}")
-    return 7 if complete and not counts.is_complete else 0, lines + list(opened(observer))
+    flits, accesses = counts.flits - unjudged.flits, counts.accesses - unjudged.accesses
+    lines = unjudged.text.splitlines() + [f"accepted {flits} flits on {counts.lines - unjudged.lines} cache lines"]
+    if accesses:
+        lines.append(f"accepted {accesses} loads and stores")
+    lines += opened(observer)
+    if unjudged.text and not allowed:
+        return 9 if flits or accesses else 8, lines
+    return 7 if complete and not counts.is_complete else 0, lines
 
 
 def observed(text, arguments):
     """The status and the lines on a trace; 1 and none where it is no trace."""
     types = int("--types" in arguments and {"two": 2, "four": 4}.get(arguments[arguments.index("--types") + 1], 0))
     told = {"types": types, "early_grants": "--early-grants" in arguments, "stores": Stores("listed" in arguments)}
-    with chihome.Observer(lines=4096, ids=4096, accounts=1024, homes=255, **told) as observer:
-        try:
-            for place, line in enumerate(text.split("\n"), 1):
-                seen = flit_in(line, place)
-                if seen:
-                    observer.take(seen)
-        except NoTrace:
-            return 1, []
-        except chihome.Fault:
-            fault = observer.fault()
-            return 6 if fault.number == place else 2, [fault.text]
-        return (1, []) if text and not text.endswith("\n") else ended(observer, "--complete" in arguments)
+    own = "--opcodes" in arguments and arguments[arguments.index("--opcodes") + 1] == "any"
+    observer = chihome.Observer(lines=4096, ids=4096, accounts=1024, homes=255, **told)
+    try:
+        for place, line in enumerate(text.split("\n"), 1):
+            seen = flit_in(line, place, own)
+            if seen:
+                observer.take(seen)
+        end = ended(observer, "--complete" in arguments, "allowed" in arguments)
+    except NoTrace:
+        end = 1, []
+    except chihome.Fault:
+        fault = observer.fault()
+        end = 6 if fault.number == place else 2, [fault.text]
+    return end if is_closed_so(observer, *end, "allowed" in arguments) else (2, ["the close answers otherwise"])
+
+
+def is_closed_so(observer, status, lines, allowed):
+    """Whether the close of the observer, whose trace has this status and these lines, says what isn't judged."""
+    refused = {8: chihome.NothingJudged, 9: chihome.PartlyJudged}.get(status)
+    if status in (1, 6) or allowed:
+        observer.close(allowed=True)
+        return True
+    try:
+        observer.close()
+    except chihome.Refused as refusal:
+        return type(refusal) is refused
+    return refused is None
 
 
 def stored(trace):
@@ -207,8 +225,14 @@ def is_right(text, arguments, length, legal):
     """Whether an observer takes all of a legal trace, and of another all but the last line."""
     status, lines = observed(text, arguments)
     if legal:
-        return status == 0 and not any(it.startswith("set aside") for it in lines)
+        return status == 0
     return status == 6 and lines[0].startswith(f"line {length}: ")
+
+
+def is_text(trace):
+    """Whether a file is lines of a trace, each with its end."""
+    data = trace.read_bytes()
+    return data.isascii() and data.endswith(b"\n") and max(map(len, data.split(b"\n"))) <= 4096
 
 
 def main(names):
@@ -216,8 +240,8 @@ def main(names):
     for trace in sorted(TOP.glob("tests/observe/*.trace")):
         arguments = trace.with_suffix(".args")
         arguments = arguments.read_text().split() if arguments.exists() else []
-        # (an observer begins with the trace, and sees flits where they are sent)
-        if {"--seen", "--start"} & set(arguments):
+        # (an observer begins with the trace, sees flits where they are sent, and is given data and whole lines)
+        if {"--seen", "--start", "--data"} & set(arguments) or not is_text(trace):
             continue
         status, lines = stored(trace)
         # (the library keeps no flits for a context)
@@ -226,6 +250,8 @@ def main(names):
         same += given == wanted
         wrong += [(trace, given, wanted)] * (given != wanted)
     for trace in sorted([*TOP.glob("tests/traces/*.trace"), *TOP.glob("suite/traces/*.trace")] if names else []):
+        if not is_text(trace):
+            continue
         given, wanted = observed(trace.read_text(), []), asked(names[0], trace)
         same += given == wanted
         wrong += [(trace, given, wanted)] * (given != wanted)

@@ -19,7 +19,6 @@ pub mod Standing
 pub mod Taken
 pub mod Observed
 pub mod MonitorHandle
-pub mod MonitorFacts
 pub mod MonitorCalls
 pub mod Opcodes
 pub mod SeenFlits

@@ -18,11 +18,9 @@ use Rattle.chi_monitor.specs.declared.monitor.NotTaken.{NotTaken}
 use Rattle.chi_monitor.specs.declared.monitor.NotTaken.TheVariants.{OutOfRange, Faulty, Full}
 use Rattle.chi_monitor.specs.declared.open_flits.OpenFlits.{OpenFlits}
 use Rattle.chi_monitor.specs.Watched.{IsObserved, IsToldAt, MonitorState, flit_refusal, opening_monitor}
-use Rattle.chi_slice.specs.Words.{flit, four_types, is_between, sizes_if, two_types, Sizes}
+use Rattle.chi_slice.specs.Words.{four_types, is_between, sizes_if, two_types, Sizes}
 use Rattle.chi_library.specs.declared.monitor_told.ChiFault.{ChiFault}
 use Rattle.chi_library.specs.declared.monitor_told.ChiOpen.{ChiOpen}
-use Rattle.chi_library.specs.Flits.{no_sent, sent_told}
-use Rattle.chi_library.specs.MonitorFacts.{choice_number, differing_words, expected_words, other_agent, since_of, state_named, told_number, told_since}
 use Rattle.chi_library.specs.Numbers.{flag_number, profile_of}
 use Rattle.chi_library.specs.SavedSlices.{AreBytesTold}
 
@@ -95,36 +93,16 @@ reason_number other = 19
 
 -- no fault, and the first
 abbrev pub no_fault : ChiFault
-no_fault = record {
-  reason = 0;
-  line = 0;
-  choice = 0;
-  other = 255;
-  state = 255;
-  told = 0;
-  reserved = replicate 2 0;
-  number = 0;
-  since = 0;
-  differs = replicate 8 0;
-  expected = replicate 8 0;
-  sent = no_sent;
-}
+no_fault = record { number = 0; reason = 0; agent = 0; line = 0; reserved = replicate 5 0 }
 
 abbrev pub fault_told : Option FirstFault → ChiFault
 fault_told None = no_fault
 fault_told (Some first) = record {
-  reason = reason_number first.reason;
-  line = first.line.0;
-  choice = choice_number first.reason;
-  other = other_agent first.reason;
-  state = state_named first.reason;
-  told = told_number (told_since first.reason);
-  reserved = replicate 2 0;
   number = first.number;
-  since = since_of (told_since first.reason);
-  differs = differing_words first.reason;
-  expected = expected_words first.reason;
-  sent = sent_told (flit first.flit.agent first.flit.message);
+  reason = reason_number first.reason;
+  agent = first.flit.agent.0;
+  line = first.line.0;
+  reserved = replicate 5 0;
 }
 
 -- a text, whatever it is, of the monitor that is held

@@ -1,5 +1,5 @@
 -- What the calls on an observer answer, leave and tell, by C's numbers (docs/LIBRARY.md, "An observer").
-use Rattle.std.specs.Prelude.{◌≡◌, ℕ, List, Option, Some, None, slice_get}
+use Rattle.std.specs.Prelude.{◌≡◌, ◌⊎◌, ℕ, List, Option, Some, None, slice_get}
 use Rattle.std.specs.Global.{Global}
 use Rattle.std.specs.Map.{values_of}
 use Rattle.chi_trace.specs.declared.any_flits.AnySeen.{AnySeen}
@@ -11,13 +11,15 @@ use Rattle.chi_observe.specs.declared.ids.OpenId.{OpenId}
 use Rattle.chi_observe.specs.Benches.{IsSeen, IsToldOf, benched, nothing_benched}
 use Rattle.chi_observe.specs.Pending.{is_id_open}
 use Rattle.chi_observe.specs.Tallies.{tallied}
+use Rattle.chi_observe.specs.Told.{IsUnjudgedText}
 use Rattle.chi_observe.specs.Watched.{Watched}
 use Rattle.chi_library.specs.declared.observer_told.ChiAccount.{ChiAccount}
 use Rattle.chi_library.specs.declared.observer_told.ChiObserverCounts.{ChiObserverCounts}
 use Rattle.chi_library.specs.declared.observer_told.ChiObserverFault.{ChiObserverFault}
 use Rattle.chi_library.specs.declared.observer_told.ChiOpenId.{ChiOpenId}
+use Rattle.chi_library.specs.declared.observer_told.ChiUnjudged.{ChiUnjudged}
 use Rattle.chi_library.specs.declared.observer_told.Opening.{Opening}
-use Rattle.chi_library.specs.ObserverTold.{account_told, counts_told, fault_told, id_told, judged_number, no_account, no_fault, no_id}
+use Rattle.chi_library.specs.ObserverTold.{account_told, counts_told, ended_number, fault_told, id_told, judged_number, no_account, no_fault, no_id, unjudged_told}
 use Rattle.chi_library.specs.SavedSlices.{AreBytesTold}
 
 -- an observer that has seen no flit opens
@@ -50,6 +52,23 @@ IsFaultTextTold (Some b) room answer new told = (text : List ℕ) × AreBytesTol
 
 abbrev pub counts_in : BenchWatch Global → ChiObserverCounts
 counts_in b = counts_told (tallied (told_in b))
+
+-- how much wasn't judged, the text on it, which `observe` prints, and what a close answers
+abbrev pub unjudged_in : BenchWatch Global → ChiUnjudged
+unjudged_in b = unjudged_told (told_in b).counts
+
+abbrev pub IsUnjudgedTextOf : Watched → List ℕ → ℕ → List ℕ → ℕ → Type 0
+IsUnjudgedTextOf w room answer new told =
+    ((text : List ℕ) × IsUnjudgedText w text × AreBytesTold text room answer new told)
+    ⊎ ((answer ≡ 8) × (told ≡ 0) × (new ≡ room))
+
+abbrev pub IsUnjudgedTextTold : Option (BenchWatch Global) → List ℕ → ℕ → List ℕ → ℕ → Type 0
+IsUnjudgedTextTold None room answer new told = (answer ≡ 255) × (told ≡ 0) × (new ≡ room)
+IsUnjudgedTextTold (Some b) room answer new told = IsUnjudgedTextOf (told_in b) room answer new told
+
+abbrev pub closing_number : Option (BenchWatch Global) → ℕ
+closing_number None = 255
+closing_number (Some b) = ended_number (told_in b).counts
 
 -- the id and the account of a place
 abbrev pub id_in : BenchWatch Global → ℕ → Option OpenId

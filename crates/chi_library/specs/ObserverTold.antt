@@ -1,5 +1,5 @@
 -- What the calls on an observer are told and tell, by C's numbers (docs/LIBRARY.md, "An observer").
-use Rattle.std.specs.Prelude.{ℕ, ◌+◌, ◌*◌, ◌%◌, ◌==◌, ◌&&◌, Bool, true, false, not, min, nat_le, List, [], ◌∷◌, Option, Some, None, if◌then◌else◌, is_some, replicate}
+use Rattle.std.specs.Prelude.{ℕ, ◌+◌, ◌*◌, ◌%◌, ◌==◌, ◌&&◌, Bool, true, false, min, nat_le, List, Option, Some, None, if◌then◌else◌, is_some, replicate}
 use Rattle.std.specs.List.{slice_index_or}
 use Rattle.chi_observer.specs.declared.kinds.Kind.{Kind}
 use Rattle.chi_observer.specs.declared.kinds.Kind.TheVariants as kinds
@@ -9,10 +9,10 @@ use Rattle.chi_observer.specs.declared.flits.Stores.{Stores}
 use Rattle.chi_observer.specs.declared.flits.Stores.TheVariants.{Hidden, Listed}
 use Rattle.chi_observer.specs.declared.observer.Reason.{Reason}
 use Rattle.chi_observer.specs.declared.observer.Reason.TheVariants as rules
-use Rattle.chi_observer.specs.declared.told.Told.{Told}
-use Rattle.chi_observer.specs.declared.told.Told.TheVariants as copies
-use Rattle.chi_trace.specs.declared.fields.NodeId.{NodeId}
 use Rattle.chi_trace.specs.declared.fields.PcrdType.{PcrdType}
+use Rattle.chi_trace.specs.declared.forms.Listing.TheVariants as listings
+use Rattle.chi_trace.specs.declared.forms.Opcodes.TheVariants.{IssueB}
+use Rattle.chi_trace.specs.declared.forms.TraceForm.{TraceForm}
 use Rattle.chi_observe.specs.declared.judges.Log.TheVariants.{Whole}
 use Rattle.chi_observe.specs.declared.benches.Judged.{Judged}
 use Rattle.chi_observe.specs.declared.benches.Judged.TheVariants as judged
@@ -35,7 +35,9 @@ use Rattle.chi_observe.specs.declared.tallies.Tally.{Tally}
 use Rattle.chi_observe.specs.declared.watch.Aside.{Aside}
 use Rattle.chi_observe.specs.declared.watch.WatchFault.{WatchFault}
 use Rattle.chi_observe.specs.declared.watch.WatchFault.TheVariants as faults
+use Rattle.chi_observe.specs.declared.watch.Counts.{Counts}
 use Rattle.chi_observe.specs.Credits.{owed_of, unused_of}
+use Rattle.chi_observe.specs.Told.{is_nothing_judged, is_unjudged}
 use Rattle.chi_ids.specs.Keys.{sides_of}
 use Rattle.chi_library.specs.Opcodes as opcodes
 use Rattle.chi_library.specs.Numbers.{flag_number}
@@ -44,6 +46,7 @@ use Rattle.chi_library.specs.declared.observer_told.ChiObserverConfig.{ChiObserv
 use Rattle.chi_library.specs.declared.observer_told.ChiObserverCounts.{ChiObserverCounts}
 use Rattle.chi_library.specs.declared.observer_told.ChiObserverFault.{ChiObserverFault}
 use Rattle.chi_library.specs.declared.observer_told.ChiOpenId.{ChiOpenId}
+use Rattle.chi_library.specs.declared.observer_told.ChiUnjudged.{ChiUnjudged}
 use Rattle.chi_library.specs.declared.observer_told.Opening.{Opening}
 
 -- the sizes of an observer in their limits, its credit types, early grants, and whether stores may be hidden
@@ -78,8 +81,12 @@ stores_at n =
     if n == 0 then Some Hidden else (
     if n == 1 then Some Listed else None)
 
+-- the opcodes of Issue B, with their data
+abbrev pub usual_form : TraceForm
+usual_form = record { opcodes = IssueB; listing = listings.Listed }
+
 abbrev pub opening_of : Option Room → Option CreditTypes → Option Bool → Option Stores → Option Opening
-opening_of (Some room) (Some types) (Some early) (Some stores) = Some (record { options = record { types = types; early_grants = early; stores = stores; log = Whole }; room = room })
+opening_of (Some room) (Some types) (Some early) (Some stores) = Some (record { options = record { types = types; early_grants = early; stores = stores; log = Whole; form = usual_form }; room = room })
 opening_of room types early stores = None
 
 abbrev pub opening_at : ChiObserverConfig → Option Opening
@@ -129,15 +136,6 @@ abbrev pub reason_number : WatchFault → ℕ
 reason_number (faults.Ids reason) = id_reason_number reason
 reason_number (faults.Line reason) = line_reason_number reason
 
--- the type that a flit has to name, where that is its fault
-abbrev pub wanted_by : IdReason → ℕ
-wanted_by (ids.OtherType named wanted) = wanted.0
-wanted_by other = 255
-
-abbrev pub wanted_number : WatchFault → ℕ
-wanted_number (faults.Ids reason) = wanted_by reason
-wanted_number (faults.Line reason) = 255
-
 -- ids
 abbrev pub key_form : IdKey → ℕ
 key_form (keys.Request sides txn) = 1
@@ -151,14 +149,6 @@ key_number (keys.Buffer sides dbid) = dbid.0
 key_number (keys.Snoop sides txn) = txn.0
 key_number (keys.Retried sides line) = 0
 
-abbrev pub form_number : Option IdKey → ℕ
-form_number None = 0
-form_number (Some key) = key_form key
-
-abbrev pub id_number : Option IdKey → ℕ
-id_number None = 0
-id_number (Some key) = key_number key
-
 -- lines by the addresses of their first bytes, below 2^64
 abbrev pub line_address : CacheLine → ℕ
 line_address line = line.0 % 0x400_0000_0000_0000 * 64
@@ -166,28 +156,6 @@ line_address line = line.0 % 0x400_0000_0000_0000 * 64
 abbrev pub line_number : Option CacheLine → ℕ
 line_number None = 0
 line_number (Some line) = line_address line
-
-abbrev pub node_number : Option NodeId → ℕ
-node_number None = 0
-node_number (Some node) = node.0
-
--- what was told of a copy
-abbrev pub copy_number : Told → ℕ
-copy_number copies.I = 0
-copy_number copies.SC = 1
-copy_number copies.SCOrI = 2
-copy_number copies.UC = 3
-copy_number copies.UCOrI = 4
-copy_number copies.UCE = 5
-copy_number copies.UCEOrI = 6
-copy_number copies.UCOrUCE = 7
-copy_number copies.UD = 8
-copy_number copies.SD = 9
-copy_number copies.Writing = 10
-
-abbrev pub told_number : Option Told → ℕ
-told_number None = 255
-told_number (Some told) = copy_number told
 
 -- eight words as bits
 abbrev pub bit : Bool → ℕ → ℕ
@@ -201,64 +169,18 @@ mask_of words =
     (bit_of words 0 1 + bit_of words 1 2 + bit_of words 2 4 + bit_of words 3 8)
     + (bit_of words 4 16 + bit_of words 5 32 + bit_of words 6 64 + bit_of words 7 128)
 
-abbrev pub words_differ : ℕ → ℕ → Bool
-words_differ one other = not (one == other)
-
-abbrev pub differs_at : List ℕ → List ℕ → ℕ → Bool
-differs_at known shown n = words_differ (slice_index_or known n 0) (slice_index_or shown n 0)
-
-abbrev pub differing : List ℕ → List ℕ → ℕ
-differing known shown =
-    mask_of (differs_at known shown 0 ∷ differs_at known shown 1 ∷ differs_at known shown 2 ∷ differs_at known shown 3
-    ∷ differs_at known shown 4 ∷ differs_at known shown 5 ∷ differs_at known shown 6 ∷ differs_at known shown 7 ∷ [])
-
-abbrev pub differs_number : Option (List ℕ × List ℕ) → ℕ
-differs_number None = 0
-differs_number (Some words) = differing words.0 words.1
-
-abbrev pub expected_words : Option (List ℕ × List ℕ) → List ℕ
-expected_words None = replicate 8 0
-expected_words (Some words) = words.0
-
 -- no fault, and the first
 abbrev pub no_fault : ChiObserverFault
-no_fault = record {
-  number = 0;
-  line = 0;
-  since = 0;
-  expected = replicate 8 0;
-  node = 0;
-  home = 0;
-  other = 0;
-  id = 0;
-  reason = 0;
-  has_line = 0;
-  has_other = 0;
-  form = 0;
-  told = 255;
-  differs = 0;
-  wanted = 255;
-  reserved = 0;
-}
+no_fault = record { number = 0; line = 0; node = 0; reason = 0; has_line = 0; reserved = replicate 4 0 }
 
 abbrev pub facts_told : FaultFacts → ChiObserverFault
 facts_told facts = record {
   number = facts.number;
   line = line_number facts.line;
-  since = facts.ground.since;
-  expected = expected_words facts.ground.words;
   node = facts.sides.requester.0;
-  home = facts.sides.home.0;
-  other = node_number facts.ground.other;
-  id = id_number facts.ground.key;
   reason = reason_number facts.fault;
   has_line = flag_number (is_some facts.line);
-  has_other = flag_number (is_some facts.ground.other);
-  form = form_number facts.ground.key;
-  told = told_number facts.ground.told;
-  differs = differs_number facts.ground.words;
-  wanted = wanted_number facts.fault;
-  reserved = 0;
+  reserved = replicate 4 0;
 }
 
 abbrev pub fault_told : Option FaultFacts → ChiObserverFault
@@ -319,6 +241,24 @@ counts_told tally = record {
   homes = least_byte tally.homes;
   reserved = replicate 2 0;
 }
+
+-- how much wasn't judged
+abbrev pub nothing_unjudged : ChiUnjudged
+nothing_unjudged = record { flits = 0; of_flits = 0; lines = 0; of_lines = 0; accesses = 0; of_accesses = 0 }
+
+abbrev pub unjudged_told : Counts → ChiUnjudged
+unjudged_told counts = record {
+  flits = counts.unjudged;
+  of_flits = counts.flits;
+  lines = counts.aside;
+  of_lines = counts.lines;
+  accesses = counts.unseen;
+  of_accesses = counts.accesses;
+}
+
+-- what a close answers: 245 where nothing was judged, and 246 where something wasn't
+abbrev pub ended_number : Counts → ℕ
+ended_number counts = if is_nothing_judged counts then 245 else (if is_unjudged counts then 246 else 0)
 
 -- ids that are held: the opcode of their request or snoop
 abbrev pub kind_number : Kind → ℕ

@@ -123,3 +123,33 @@ other_answer = 39
 
 abbrev pub other_reply : ℕ
 other_reply = 40
+
+-- those of Issue B that aren't judged, in the order of their table: the first and the last of each channel, and the answers to
+-- snoops
+
+abbrev pub req_lcrd_return : ℕ
+req_lcrd_return = 41
+
+abbrev pub prefetch_tgt : ℕ
+prefetch_tgt = 59
+
+abbrev pub snp_lcrd_return : ℕ
+snp_lcrd_return = 60
+
+abbrev pub snp_unique_fwd : ℕ
+snp_unique_fwd = 70
+
+abbrev pub resp_lcrd_return : ℕ
+resp_lcrd_return = 71
+
+abbrev pub snp_resp_fwded : ℕ
+snp_resp_fwded = 74
+
+abbrev pub snp_resp_data_ptl : ℕ
+snp_resp_data_ptl = 76
+
+abbrev pub snp_resp_data_fwded : ℕ
+snp_resp_data_fwded = 77
+
+abbrev pub write_data_cancel : ℕ
+write_data_cancel = 78

@@ -1,5 +1,5 @@
 -- A flit that C gives an observer, as a line of a trace (docs/LIBRARY.md, "An observer").
-use Rattle.std.specs.Prelude.{ℕ, ◌==◌, ◌/◌, ◌%◌, ◌&&◌, ◌||◌, Bool, nat_le, nat_lt, List, [], ◌∷◌, Option, Some, None, if◌then◌else◌, option_map}
+use Rattle.std.specs.Prelude.{ℕ, ◌-◌, ◌==◌, ◌/◌, ◌%◌, ◌&&◌, ◌||◌, Bool, nat_le, nat_lt, List, [], ◌∷◌, Option, Some, None, if◌then◌else◌, option_map}
 use Rattle.std.specs.List.{slice_index_or}
 use Rattle.chi_flit.specs.declared.kind.Kind.{Kind}
 use Rattle.chi_flit.specs.declared.kind.Kind.TheVariants as kinds
@@ -23,8 +23,13 @@ use Rattle.chi_trace.specs.declared.flits.Flit.TheVariants as flits
 use Rattle.chi_trace.specs.declared.flits.RequestFields.{RequestFields}
 use Rattle.chi_trace.specs.declared.flits.SnoopFields.{SnoopFields}
 use Rattle.chi_trace.specs.declared.flits.Transaction.{Transaction}
+use Rattle.chi_trace.specs.declared.other_opcodes.OtherOpcode.{OtherOpcode}
 use Rattle.chi_library.specs.Opcodes as opcodes
 use Rattle.chi_library.specs.declared.seen_flits.ChiSeen.{ChiSeen}
+
+-- an opcode of a design's own
+abbrev pub own : OtherOpcode
+own = record { 0 = 255 }
 
 -- a RESP, and a credit type
 abbrev pub resp_at : ℕ → Option Resp
@@ -112,7 +117,7 @@ request_flit opcode fields =
     if opcode == opcodes.write_clean_full then Some (kind_flit kinds.WriteCleanFull fields) else (
     if opcode == opcodes.write_evict_full then Some (kind_flit kinds.WriteEvictFull fields) else (
     if opcode == opcodes.write_unique_full then Some (other_kind_flit others.WriteUniqueFull fields) else (
-    if opcode == opcodes.other_request then Some (any.UnknownRequest fields) else None)))))))))))))))
+    if opcode == opcodes.other_request then Some (any.UnknownRequest own fields) else None)))))))))))))))
 
 abbrev pub requesting : ℕ → Option RequestFields → Option AnyFlit
 requesting opcode None = None
@@ -138,7 +143,7 @@ snoop_flit opcode fields =
     if opcode == opcodes.snp_unique then Some (asking_flit snoops.SnpUnique fields) else (
     if opcode == opcodes.snp_clean_invalid then Some (asking_flit snoops.SnpCleanInvalid fields) else (
     if opcode == opcodes.snp_make_invalid then Some (other_asking_flit other_snoops.SnpMakeInvalid fields) else (
-    if opcode == opcodes.other_snoop then Some (any.UnknownSnoop fields) else None))))))))
+    if opcode == opcodes.other_snoop then Some (any.UnknownSnoop own fields) else None))))))))
 
 -- responses and credits
 abbrev pub retrying : ChiSeen → PcrdType → Flit
@@ -216,18 +221,40 @@ data_with s (Some resp) (Some beat) = data_of s resp beat
 abbrev pub data_at : ChiSeen → Option AnyFlit
 data_at s = data_with s (resp_at s.resp) (beat_at s)
 
+-- those of Issue B that aren't judged, in the order of their table
+abbrev pub is_between : ℕ → ℕ → ℕ → Bool
+is_between first last n = nat_le first n && nat_le n last
+
+abbrev pub row_of : ℕ → OtherOpcode
+row_of n = record { 0 = n - opcodes.req_lcrd_return }
+
+abbrev pub unjudged_request : ChiSeen → Option AnyFlit
+unjudged_request s = option_map (λ fields. any.UnknownRequest (row_of s.opcode) fields) (request_fields_at s)
+
+abbrev pub is_unjudged_answer : ℕ → Bool
+is_unjudged_answer n = n == opcodes.snp_resp_fwded || is_between opcodes.snp_resp_data_ptl opcodes.snp_resp_data_fwded n
+
+abbrev pub unjudged_reply : ChiSeen → AnyFlit
+unjudged_reply s =
+    if is_unjudged_answer s.opcode
+    then any.UnknownAnswer (row_of s.opcode) (transaction_at s)
+    else any.UnknownReply (row_of s.opcode) (transaction_at s) (dbid_named s)
+
+abbrev pub unjudged_at : ChiSeen → Option AnyFlit
+unjudged_at s =
+    if is_between opcodes.req_lcrd_return opcodes.prefetch_tgt s.opcode then unjudged_request s else (
+    if is_between opcodes.snp_lcrd_return opcodes.snp_unique_fwd s.opcode then Some (any.UnknownSnoop (row_of s.opcode) (snoop_fields_at s)) else (
+    if is_between opcodes.resp_lcrd_return opcodes.write_data_cancel s.opcode then Some (unjudged_reply s) else None))
+
 -- loads and stores, and what has no number of its own
 abbrev pub other_at : ChiSeen → Option AnyFlit
 other_at s =
     if s.opcode == opcodes.load then Some (any.Profile (flits.Load (record { 0 = s.address }) (slice_index_or s.words 0 0))) else (
     if s.opcode == opcodes.store then Some (any.Profile (flits.Store (record { 0 = s.address }) (slice_index_or s.words 0 0))) else (
-    if s.opcode == opcodes.other_answer then Some (any.UnknownAnswer (transaction_at s)) else (
-    if s.opcode == opcodes.other_reply then Some (any.UnknownReply (transaction_at s) (dbid_named s)) else None)))
+    if s.opcode == opcodes.other_answer then Some (any.UnknownAnswer own (transaction_at s)) else (
+    if s.opcode == opcodes.other_reply then Some (any.UnknownReply own (transaction_at s) (dbid_named s)) else unjudged_at s)))
 
 -- each opcode by its channel
-abbrev pub is_between : ℕ → ℕ → ℕ → Bool
-is_between first last n = nat_le first n && nat_le n last
-
 abbrev pub is_request : ℕ → Bool
 is_request n = is_between opcodes.read_not_shared_dirty opcodes.write_unique_full n || n == opcodes.other_request
 

@@ -20,6 +20,12 @@ pub(crate) const OUT_OF_RANGE: u8 = 10;
 /// A requester doesn't agree with a slice: the number of the refusal `NotOpen`.
 pub(crate) const NOT_OPEN: u8 = 11;
 
+/// An observer is closed, and nothing that it was given was judged.
+pub(crate) const NOTHING_JUDGED: u8 = 245;
+
+/// An observer is closed, and something that it was given wasn't judged.
+pub(crate) const PARTLY_JUDGED: u8 = 246;
+
 /// An observer has no room for what a flit would add.
 pub(crate) const FULL: u8 = 247;
 

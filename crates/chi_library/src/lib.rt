@@ -11,7 +11,6 @@ mod flits;
 mod lines;
 mod messages;
 mod monitor_calls;
-mod monitor_facts;
 mod monitor_handle;
 mod monitor_told;
 mod node_calls;

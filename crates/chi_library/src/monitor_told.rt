@@ -4,40 +4,21 @@ ghost use Rattle.std.specs.Prelude.{◌≡◌, map};
 ghost use Rattle.chi_library.specs.MonitorCalls.{cause_number, explained_number, fault_number, fault_told, open_told, reason_number, taken_number, undone_number};
 
 use crate::answers::{DONE, FAULT, NO_MEMORY, NO_ROOM, NOT_KEPT, OUT_OF_RANGE};
-use crate::flits::{ChiSent, tell_sent};
-use crate::monitor_facts::{
-    choice_number, differing_words, expected_words, other_agent, since_of, state_named,
-    told_number, told_since,
-};
 use crate::numbers::flag_number;
 use chi_explain::Unexplained;
-use chi_flit::{Data, NO_DATA};
 use chi_monitor::{FirstFault, LineFault, NoExplanation, NotExplained, NotTaken, OpenFlits};
 
-/// The first flit that no run of the model sends: `ChiFault` of `chihome.h`. Where there is none all numbers
-/// are 0, but that no agent and no state are 255. `reserved` is padding in C.
+/// The first flit that no run of the model sends: `ChiFault` of `chihome.h`. Where there is none all numbers are 0.
+/// `reserved` is padding in C.
 /// Source: `docs/LIBRARY.md`, "A monitor".
 #[repr(C)]
 #[derive(Clone, Copy)]
 pub struct ChiFault {
-    pub reason: u8,
-    pub line: u8,
-    /// 1 where the reason rests on a choice of the profile.
-    pub choice: u8,
-    /// The agent that is to do something first, or has a copy.
-    pub other: u8,
-    /// The last known state of the copy that the reason speaks of.
-    pub state: u8,
-    /// 1 where a flit has told that, whose number is `since`.
-    pub told: u8,
-    pub reserved: [u8; 2],
     pub number: u64,
-    pub since: u64,
-    /// 1 for each word of data that differs from what its sender has.
-    pub differs: [u8; 8],
-    /// What it has in these words.
-    pub expected: Data,
-    pub sent: ChiSent,
+    pub reason: u8,
+    pub agent: u8,
+    pub line: u8,
+    pub reserved: [u8; 5],
 }
 
 /// What is open of an agent at a line, 1 where it is: `ChiOpen` of `chihome.h`.
@@ -55,18 +36,11 @@ pub struct ChiOpen {
 impl ChiFault {
     /// No fault: all numbers are 0.
     pub(crate) const NONE: ChiFault = ChiFault {
-        reason: 0,
-        line: 0,
-        choice: 0,
-        other: 255,
-        state: 255,
-        told: 0,
-        reserved: [0; 2],
         number: 0,
-        since: 0,
-        differs: [0; 8],
-        expected: NO_DATA,
-        sent: ChiSent::NONE,
+        reason: 0,
+        agent: 0,
+        line: 0,
+        reserved: [0; 5],
     };
 }
 
@@ -139,23 +113,16 @@ fn reason_number(reason: LineFault) -> u8
 pub(crate) fn fault_told(fault: Option<FirstFault>) -> ChiFault
     ensures { result ≡ fault_told fault }
 {
-    let mut told = ChiFault::NONE;
-    if let Some(first) = fault {
-        told.reason = reason_number(first.reason);
-        let reason = &first.reason;
-        let since = told_since(reason);
-        told.line = first.line.0;
-        told.choice = choice_number(reason);
-        told.other = other_agent(reason);
-        told.state = state_named(reason);
-        told.told = told_number(since);
-        told.number = first.number;
-        told.since = since_of(since);
-        told.differs = differing_words(reason);
-        told.expected = expected_words(reason);
-        tell_sent(&mut told.sent, first.flit.agent, &first.flit.message);
+    match fault {
+        Some(first) => ChiFault {
+            number: first.number,
+            reason: reason_number(first.reason),
+            agent: first.flit.agent.0,
+            line: first.line.0,
+            reserved: [0; 5],
+        },
+        None => ChiFault::NONE,
     }
-    told
 }
 
 /// What is open of an agent.

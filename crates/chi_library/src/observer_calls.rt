@@ -1,22 +1,22 @@
 //! The calls on an observer, for C.
 
 ghost use Rattle.std.specs.Prelude.{◌≡◌, IfOk, None, Some, option_map};
-ghost use Rattle.chi_observe.specs.Benches.{benched, nothing_benched};
-ghost use Rattle.chi_observe.specs.Tallies.{tallied};
+ghost use Rattle.chi_observe.specs.Benches.{benched};
 ghost use Rattle.chi_library.specs.Calls.{IsOpeningCall, answer_number, output_of};
 ghost use Rattle.chi_library.specs.MonitorCalls.{watched_refusal};
 ghost use Rattle.chi_library.specs.Numbers.{number_if};
-ghost use Rattle.chi_library.specs.ObserverCalls.{IsFaultTold, IsFaultTextTold, IsObserverOf, IsSeenAnswered, IsSeenAs, account_in, account_if, counts_in, id_if, id_in};
-ghost use Rattle.chi_library.specs.ObserverTold.{no_account, no_counts, no_id, opening_at};
+ghost use Rattle.chi_library.specs.ObserverCalls.{IsFaultTold, IsFaultTextTold, IsObserverOf, IsSeenAnswered, IsSeenAs, IsUnjudgedTextOf, IsUnjudgedTextTold, account_in, account_if, closing_number, counts_in, id_if, id_in, told_in, unjudged_in};
+ghost use Rattle.chi_library.specs.ObserverTold.{ended_number, no_account, no_counts, no_id, nothing_unjudged, opening_at};
 ghost use Rattle.chi_library.specs.SavedSlices.{AreBytesTold};
 ghost use Rattle.chi_library.specs.SeenFlits.{seen_of};
-ghost use Rattle.chi_library.specs.Snapshots.{IsCompared, IsCopied};
+ghost use Rattle.chi_library.specs.Snapshots.{IsCopied};
 
 use crate::answers::{ALREADY_OPEN, CLOSED, DONE, NO_MEMORY, NO_ROOM, OUT_OF_RANGE};
 use crate::observer_handle::ChiObserver;
 use crate::observer_told::{
-    ChiAccount, ChiObserverConfig, ChiObserverCounts, ChiObserverFault, ChiOpenId, Opening,
-    account_told, counts_told, fault_told, id_told, judged_number, opening_at,
+    ChiAccount, ChiObserverConfig, ChiObserverCounts, ChiObserverFault, ChiOpenId, ChiUnjudged,
+    Opening, account_told, counts_told, ended_number, fault_told, id_told, judged_number,
+    opening_at, unjudged_told,
 };
 use crate::seen_flits::{ChiSeen, seen_at};
 use chi_flit::NoMemory;
@@ -68,9 +68,9 @@ pub extern "C" fn chi_observer_take(alloc: Global, observer: &mut ChiObserver, s
     }
 }
 
-/// Tells the first fault; all numbers are 0 where there is none, but that no copy and no type are 255.
+/// Tells the first fault; all numbers are 0 where there is none.
 ///
-/// Answers 0, or 255 of a closed handle. Nothing changes. What a reason rests on no clause says.
+/// Answers 0, or 255 of a closed handle. Nothing changes.
 /// Source: `docs/LIBRARY.md`, "An observer".
 #[unsafe(no_mangle)]
 pub extern "C" fn chi_observer_fault(
@@ -141,6 +141,59 @@ pub extern "C" fn chi_observer_counts(
             *counts = counts_of(&held);
             observer.put(held);
             DONE
+        }
+        None => CLOSED,
+    }
+}
+
+/// Tells how much of what the observer was given it hasn't judged.
+///
+/// Answers 0, or 255 of a closed handle. Nothing changes.
+/// Source: `docs/LIBRARY.md`, "An observer".
+#[unsafe(no_mangle)]
+pub extern "C" fn chi_observer_unjudged(
+    alloc: Global,
+    observer: &mut ChiObserver,
+    unjudged: &mut ChiUnjudged,
+) -> u8
+    ensures answer { result ≡ answer_number observer.old.value (λ b. None) }
+    ensures after { observer.new.value ≡ observer.old.value }
+    ensures unjudged { unjudged.new ≡ output_of observer.old.value nothing_unjudged unjudged_in }
+{
+    *unjudged = ChiUnjudged::NONE;
+    match observer.take(alloc) {
+        Some(held) => {
+            *unjudged = unjudged_of(&held);
+            observer.put(held);
+            DONE
+        }
+        None => CLOSED,
+    }
+}
+
+/// Writes the lines that `observe` prints on what isn't judged, each with its end, in UTF-8 and without a 0 behind them; none
+/// where all that the observer was given is judged. `length` is how many bytes they have, and those of `bytes` behind them
+/// stay.
+///
+/// Answers 0; 1 where there is not room for all, and 8 where memory runs out: `bytes` is then as it was, and after 1
+/// `length` is how many there are, else 0. Answers 255 of a closed handle. Nothing changes.
+/// Source: `docs/LIBRARY.md`, "An observer"; `docs/OBSERVER.md`, "What is printed".
+#[unsafe(no_mangle)]
+pub extern "C" fn chi_observer_unjudged_text(
+    alloc: Global,
+    observer: &mut ChiObserver,
+    bytes: &mut [u8],
+    length: &mut usize,
+) -> u8
+    ensures text { IsUnjudgedTextTold observer.old.value bytes.old result bytes.new length.new }
+    ensures after { observer.new.value ≡ observer.old.value }
+{
+    *length = 0;
+    match observer.take(alloc) {
+        Some(held) => {
+            let answer = unjudged_into(alloc, &held, bytes, length);
+            observer.put(held);
+            answer
         }
         None => CLOSED,
     }
@@ -226,45 +279,18 @@ pub extern "C" fn chi_observer_copy(
     }
 }
 
-/// Whether two observers are the same: what they were opened for, what their flits have told and by which numbers, which ids
-/// and accounts are held in which places, and the first fault. `equal` is 1 where they are, and 0 where not.
-///
-/// Answers 0, or 255 where one of them is closed; `equal` is 0 then. Nothing changes.
-/// Source: `docs/LIBRARY.md`, "Snapshots".
-#[unsafe(no_mangle)]
-pub extern "C" fn chi_observer_equal(
-    alloc: Global,
-    one: &mut ChiObserver,
-    other: &mut ChiObserver,
-    equal: &mut u8,
-) -> u8
-    ensures compared { IsCompared (option_map benched one.old.value) (option_map benched other.old.value)
-        result equal.new }
-    ensures one { one.new.value ≡ one.old.value }
-    ensures other { other.new.value ≡ other.old.value }
-{
-    *equal = 0;
-    match one.take(alloc) {
-        Some(held) => {
-            let answer = compare(alloc, &held, other, equal);
-            one.put(held);
-            answer
-        }
-        None => CLOSED,
-    }
-}
-
 /// Closes the handle and frees the observer.
 ///
-/// Answers 0, or 255 of a closed handle.
+/// Answers 0 where each flit, load and store that was taken was judged, and there was one; 245 where none was; 246 where some
+/// weren't. Answers 255 of a closed handle.
 /// Source: `docs/LIBRARY.md`, "Handles".
 #[unsafe(no_mangle)]
 pub extern "C" fn chi_observer_close(alloc: Global, observer: &mut ChiObserver) -> u8
-    ensures answer { result ≡ answer_number observer.old.value (λ b. None) }
+    ensures answer { result ≡ closing_number observer.old.value }
     ensures after { observer.new.value ≡ None }
 {
     match observer.take(alloc) {
-        Some(_) => DONE,
+        Some(held) => ended_of(&held),
         None => CLOSED,
     }
 }
@@ -317,28 +343,6 @@ fn boxed_copy(
     Ok(Box::new(alloc, copy)?)
 }
 
-/// Compares an observer with that of a handle.
-fn compare(
-    alloc: Global,
-    observer: &BenchWatch<Global>,
-    other: &mut ChiObserver,
-    equal: &mut u8,
-) -> u8
-    requires { equal.old ≡ 0 }
-    ensures compared { IsCompared (Some (benched observer.now)) (option_map benched other.old.value)
-        result equal.new }
-    ensures other { other.new.value ≡ other.old.value }
-{
-    match other.take(alloc) {
-        Some(held) => {
-            *equal = u8::from(observer.equals(&held));
-            other.put(held);
-            DONE
-        }
-        None => CLOSED,
-    }
-}
-
 /// Takes a flit.
 fn judge(observer: &mut BenchWatch<Global>, seen: &ChiSeen) -> u8
     ensures { IsSeenAs observer.old (seen_of seen.now) result observer.new }
@@ -361,6 +365,36 @@ fn counts_of(observer: &BenchWatch<Global>) -> ChiObserverCounts
     ensures { result ≡ counts_in observer.now }
 {
     counts_told(&observer.tally())
+}
+
+/// How much an observer hasn't judged.
+fn unjudged_of(observer: &BenchWatch<Global>) -> ChiUnjudged
+    ensures { result ≡ unjudged_in observer.now }
+{
+    unjudged_told(&observer.tally().counts)
+}
+
+/// What the close of an observer answers.
+fn ended_of(observer: &BenchWatch<Global>) -> u8
+    ensures { result ≡ ended_number (told_in observer.now).counts }
+{
+    ended_number(&observer.tally().counts)
+}
+
+/// Writes the text on what isn't judged into a room.
+fn unjudged_into(
+    alloc: Global,
+    observer: &BenchWatch<Global>,
+    bytes: &mut [u8],
+    length: &mut usize,
+) -> u8
+    requires { length.old ≡ 0 }
+    ensures { IsUnjudgedTextOf (told_in observer.now) bytes.old result bytes.new length.new }
+{
+    match observer.unjudged_text(alloc) {
+        Ok(text) => tell_bytes(text.as_bytes(), bytes, length),
+        Err(_) => NO_MEMORY,
+    }
 }
 
 /// Writes the text of the first fault into a room.

@@ -2,9 +2,10 @@
 
 ghost use Rattle.std.specs.Prelude.{◌≡◌, ◌≤◌};
 ghost use Rattle.chi_ids.specs.Keys.{sides_of};
-ghost use Rattle.chi_library.specs.ObserverTold.{account_told, aside_line, aside_number, bit, copy_number, counts_told, differing, differs_number, early_at, expected_words, facts_told, fault_told, form_number, id_number, id_reason_number, id_told, is_size, judged_number, key_form, key_number, kind_number, lacks_mask, least, least_byte, line_address, line_number, line_reason_number, mask_of, node_number, opening_at, purpose_number, reason_number, room_at, rule_number, snoop_number, stores_at, told_number, type_number, types_at, wanted_number, words_differ};
+ghost use Rattle.chi_observe.specs.Told.{is_nothing_judged, is_unjudged};
+ghost use Rattle.chi_library.specs.ObserverTold.{account_told, aside_line, aside_number, bit, counts_told, early_at, ended_number, facts_told, fault_told, id_reason_number, id_told, is_size, judged_number, key_form, key_number, kind_number, lacks_mask, least, least_byte, line_address, line_number, line_reason_number, mask_of, opening_at, purpose_number, reason_number, room_at, rule_number, snoop_number, stores_at, type_number, types_at, unjudged_told};
 
-use crate::answers::{DONE, FAULT, FULL, NO_MEMORY, SET_ASIDE};
+use crate::answers::{DONE, FAULT, FULL, NO_MEMORY, NOTHING_JUDGED, PARTLY_JUDGED, SET_ASIDE};
 use crate::numbers::flag_number;
 use crate::opcodes::{
     CLEAN_INVALID, CLEAN_SHARED, CLEAN_UNIQUE, EVICT, MAKE_INVALID, MAKE_UNIQUE, NO_OPCODE,
@@ -12,14 +13,13 @@ use crate::opcodes::{
     SNP_CLEAN_INVALID, SNP_CLEAN_SHARED, SNP_MAKE_INVALID, SNP_NOT_SHARED_DIRTY, SNP_ONCE,
     SNP_SHARED, SNP_UNIQUE, WRITE_BACK_FULL, WRITE_CLEAN_FULL, WRITE_EVICT_FULL, WRITE_UNIQUE_FULL,
 };
-use chi_flit::{Data, NO_DATA};
 use chi_ids::{CacheLine, IdKey, Sides};
 use chi_observe::{
-    Account, Aside, CreditTypes, FaultFacts, IdReason, Judged, LineReason, Log, OpenId, Purpose,
-    Room, Tally, WatchFault, WatchOptions,
+    Account, Aside, Counts, CreditTypes, FaultFacts, IdReason, Judged, LineReason, Log, OpenId,
+    Purpose, Room, Tally, WatchFault, WatchOptions,
 };
-use chi_observer::{Kind, Reason, Snoop, Stores, Told};
-use chi_trace::{NodeId, PcrdType};
+use chi_observer::{Kind, Reason, Snoop, Stores};
+use chi_trace::{PcrdType, TraceForm};
 
 /// What an observer is opened for: `ChiObserverConfig` of `chihome.h`. `reserved` is padding in C, and isn't read.
 /// Source: `docs/LIBRARY.md`, "An observer".
@@ -37,28 +37,18 @@ pub struct ChiObserverConfig {
     pub reserved: [u8; 3],
 }
 
-/// The first flit that isn't taken: `ChiObserverFault` of `chihome.h`. Where there is none all numbers are 0, but that no
-/// copy and no type are 255. `reserved` is padding in C.
+/// The first flit that isn't taken: `ChiObserverFault` of `chihome.h`. Where there is none all numbers are 0. `reserved` is
+/// padding in C.
 /// Source: `docs/LIBRARY.md`, "An observer".
 #[repr(C)]
 #[derive(Clone, Copy)]
 pub struct ChiObserverFault {
     pub number: u64,
     pub line: u64,
-    pub since: u64,
-    pub expected: Data,
     pub node: u16,
-    pub home: u16,
-    pub other: u16,
-    pub id: u16,
     pub reason: u8,
     pub has_line: u8,
-    pub has_other: u8,
-    pub form: u8,
-    pub told: u8,
-    pub differs: u8,
-    pub wanted: u8,
-    pub reserved: u8,
+    pub reserved: [u8; 4],
 }
 
 /// How much an observer has seen, and what it holds: `ChiObserverCounts` of `chihome.h`. `reserved` is padding in C.
@@ -82,6 +72,19 @@ pub struct ChiObserverCounts {
     pub requesters: u8,
     pub homes: u8,
     pub reserved: [u8; 2],
+}
+
+/// How much of what an observer was given it hasn't judged: `ChiUnjudged` of `chihome.h`.
+/// Source: `docs/LIBRARY.md`, "An observer".
+#[repr(C)]
+#[derive(Clone, Copy)]
+pub struct ChiUnjudged {
+    pub flits: u64,
+    pub of_flits: u64,
+    pub lines: u64,
+    pub of_lines: u64,
+    pub accesses: u64,
+    pub of_accesses: u64,
 }
 
 /// An id that an observer holds: `ChiOpenId` of `chihome.h`. `reserved` is padding in C.
@@ -131,20 +134,10 @@ impl ChiObserverFault {
     pub(crate) const NONE: ChiObserverFault = ChiObserverFault {
         number: 0,
         line: 0,
-        since: 0,
-        expected: NO_DATA,
         node: 0,
-        home: 0,
-        other: 0,
-        id: 0,
         reason: 0,
         has_line: 0,
-        has_other: 0,
-        form: 0,
-        told: 255,
-        differs: 0,
-        wanted: 255,
-        reserved: 0,
+        reserved: [0; 4],
     };
 }
 
@@ -167,6 +160,18 @@ impl ChiObserverCounts {
         requesters: 0,
         homes: 0,
         reserved: [0; 2],
+    };
+}
+
+impl ChiUnjudged {
+    /// Nothing is told.
+    pub(crate) const NONE: ChiUnjudged = ChiUnjudged {
+        flits: 0,
+        of_flits: 0,
+        lines: 0,
+        of_lines: 0,
+        accesses: 0,
+        of_accesses: 0,
     };
 }
 
@@ -276,6 +281,7 @@ pub(crate) fn opening_at(config: &ChiObserverConfig) -> Option<Opening>
         early_grants,
         stores,
         log: Log::Whole,
+        form: TraceForm::USUAL,
     };
     Some(Opening { options, room })
 }
@@ -355,16 +361,6 @@ fn reason_number(fault: WatchFault) -> u8
     }
 }
 
-/// The type that a flit has to name, where that is its fault.
-fn wanted_number(fault: WatchFault) -> u8
-    ensures { result ≡ wanted_number fault }
-{
-    match fault {
-        WatchFault::Ids(IdReason::OtherType { named: _, wanted }) => wanted.0,
-        _ => 255,
-    }
-}
-
 /// What names by a key.
 fn key_form(key: IdKey) -> u8
     ensures { result ≡ key_form key }
@@ -389,26 +385,6 @@ fn key_number(key: IdKey) -> u16
     }
 }
 
-/// What names by a key, if there is one.
-fn form_number(key: Option<IdKey>) -> u8
-    ensures { result ≡ form_number key }
-{
-    match key {
-        Some(key) => key_form(key),
-        None => 0,
-    }
-}
-
-/// The number of a key, if there is one.
-fn id_number(key: Option<IdKey>) -> u16
-    ensures { result ≡ id_number key }
-{
-    match key {
-        Some(key) => key_number(key),
-        None => 0,
-    }
-}
-
 /// The address of the first byte of a line.
 fn line_address(line: CacheLine) -> u64
     ensures { result ≡ line_address line }
@@ -423,45 +399,6 @@ fn line_number(line: Option<CacheLine>) -> u64
     match line {
         Some(line) => line_address(line),
         None => 0,
-    }
-}
-
-/// The number of a node, if there is one.
-fn node_number(node: Option<NodeId>) -> u16
-    ensures { result ≡ node_number node }
-{
-    match node {
-        Some(node) => node.0,
-        None => 0,
-    }
-}
-
-/// The number of what was told of a copy.
-fn copy_number(told: Told) -> u8
-    ensures { result ≡ copy_number told }
-{
-    match told {
-        Told::I => 0,
-        Told::SC => 1,
-        Told::SCOrI => 2,
-        Told::UC => 3,
-        Told::UCOrI => 4,
-        Told::UCE => 5,
-        Told::UCEOrI => 6,
-        Told::UCOrUCE => 7,
-        Told::UD => 8,
-        Told::SD => 9,
-        Told::Writing => 10,
-    }
-}
-
-/// The number of what was told of a copy, if it was.
-fn told_number(told: Option<Told>) -> u8
-    ensures { result ≡ told_number told }
-{
-    match told {
-        Some(told) => copy_number(told),
-        None => 255,
     }
 }
 
@@ -482,78 +419,17 @@ fn mask_of(words: &[bool; 8]) -> u8
     low + high
 }
 
-/// Whether two words differ.
-fn words_differ(one: u64, other: u64) -> bool
-    ensures { result ≡ words_differ one other }
-{
-    !(one == other)
-}
-
-/// Which words differ.
-fn differing(known: &Data, shown: &Data) -> u8
-    ensures { result ≡ differing known.now shown.now }
-{
-    mask_of(&[
-        words_differ(known[0], shown[0]),
-        words_differ(known[1], shown[1]),
-        words_differ(known[2], shown[2]),
-        words_differ(known[3], shown[3]),
-        words_differ(known[4], shown[4]),
-        words_differ(known[5], shown[5]),
-        words_differ(known[6], shown[6]),
-        words_differ(known[7], shown[7]),
-    ])
-}
-
-/// Which words differ, where some do.
-fn differs_number(words: &Option<(Data, Data)>) -> u8
-    ensures { result ≡ differs_number words.now }
-{
-    match words {
-        Some(words) => {
-            let known = words.0;
-            let shown = words.1;
-            differing(&known, &shown)
-        }
-        None => 0,
-    }
-}
-
-/// The words that are known, where others were shown.
-fn expected_words(words: &Option<(Data, Data)>) -> Data
-    ensures { result ≡ expected_words words.now }
-{
-    match words {
-        Some(words) => {
-            let known = words.0;
-            known
-        }
-        None => NO_DATA,
-    }
-}
-
 /// What is told of the first flit that isn't taken.
 fn facts_told(facts: &FaultFacts) -> ChiObserverFault
     ensures { result ≡ facts_told facts.now }
 {
-    let ground = &facts.ground;
     ChiObserverFault {
         number: facts.number as u64,
         line: line_number(facts.line),
-        since: ground.since as u64,
-        expected: expected_words(&ground.words),
         node: facts.sides.requester.0,
-        home: facts.sides.home.0,
-        other: node_number(ground.other),
-        id: id_number(ground.key),
         reason: reason_number(facts.fault),
         has_line: flag_number(facts.line.is_some()),
-        has_other: flag_number(ground.other.is_some()),
-        form: form_number(ground.key),
-        told: told_number(ground.told),
-        differs: differs_number(&ground.words),
-        wanted: wanted_number(facts.fault),
-        reserved: 0,
+        reserved: [0; 4],
     }
 }
 
@@ -623,6 +499,48 @@ pub(crate) fn counts_told(tally: &Tally) -> ChiObserverCounts
         requesters: least_byte(tally.requesters),
         homes: least_byte(tally.homes),
         reserved: [0; 2],
+    }
+}
+
+/// How much wasn't judged.
+pub(crate) fn unjudged_told(counts: &Counts) -> ChiUnjudged
+    ensures { result ≡ unjudged_told counts.now }
+{
+    ChiUnjudged {
+        flits: counts.unjudged,
+        of_flits: counts.flits,
+        lines: counts.aside,
+        of_lines: counts.lines,
+        accesses: counts.unseen,
+        of_accesses: counts.accesses,
+    }
+}
+
+/// Whether nothing was judged.
+fn is_nothing_judged(counts: &Counts) -> bool
+    ensures { result ≡ is_nothing_judged counts.now }
+{
+    counts.flits.saturating_sub(counts.unjudged) == 0
+        && counts.accesses.saturating_sub(counts.unseen) == 0
+}
+
+/// Whether something wasn't.
+fn is_unjudged(counts: &Counts) -> bool
+    ensures { result ≡ is_unjudged counts.now }
+{
+    counts.unjudged != 0 || (counts.unseen != 0 || counts.cut.is_some())
+}
+
+/// What the close of an observer answers that has seen so much.
+pub(crate) fn ended_number(counts: &Counts) -> u8
+    ensures { result ≡ ended_number counts.now }
+{
+    if is_nothing_judged(counts) {
+        NOTHING_JUDGED
+    } else if is_unjudged(counts) {
+        PARTLY_JUDGED
+    } else {
+        DONE
     }
 }
 

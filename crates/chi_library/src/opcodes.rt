@@ -124,3 +124,33 @@ pub(crate) const OTHER_ANSWER: u8 = 39;
 
 /// A response or data of another opcode.
 pub(crate) const OTHER_REPLY: u8 = 40;
+
+// Those of Issue B that aren't judged have the numbers from 41 on, in the order of their table: the first and the last of each
+// channel, and the answers to snoops.
+
+/// ReqLCrdReturn.
+pub(crate) const REQ_LCRD_RETURN: u8 = 41;
+
+/// PrefetchTgt.
+pub(crate) const PREFETCH_TGT: u8 = 59;
+
+/// SnpLCrdReturn.
+pub(crate) const SNP_LCRD_RETURN: u8 = 60;
+
+/// SnpUniqueFwd.
+pub(crate) const SNP_UNIQUE_FWD: u8 = 70;
+
+/// RespLCrdReturn.
+pub(crate) const RESP_LCRD_RETURN: u8 = 71;
+
+/// SnpRespFwded.
+pub(crate) const SNP_RESP_FWDED: u8 = 74;
+
+/// SnpRespDataPtl.
+pub(crate) const SNP_RESP_DATA_PTL: u8 = 76;
+
+/// SnpRespDataFwded.
+pub(crate) const SNP_RESP_DATA_FWDED: u8 = 77;
+
+/// WriteDataCancel.
+pub(crate) const WRITE_DATA_CANCEL: u8 = 78;

@@ -1,22 +1,26 @@
 //! A flit that C gives an observer, as a line of a trace.
 
 ghost use Rattle.std.specs.Prelude.{◌≡◌, ◌<◌};
-ghost use Rattle.chi_library.specs.SeenFlits.{address_named, answer_flit, asking_flit, beat_at, buffer_flit, completion_flit, completion_of, data_at, data_of, dbid_named, flit_at, grant_flit, is_data, is_request, is_response, is_snoop, is_there, kind_flit, other_asking_flit, other_at, other_kind_flit, pcrd_at, profile_if, read_of, request_at, request_fields_at, request_fields_of, request_flit, resp_at, response_at, retry_flit, return_flit, seen_of, snoop_fields_at, snoop_flit, transaction_at, word_at, words_there};
+ghost use Rattle.chi_library.specs.SeenFlits.{address_named, answer_flit, asking_flit, beat_at, buffer_flit, completion_flit, completion_of, data_at, data_of, dbid_named, flit_at, grant_flit, is_between, is_data, is_request, is_response, is_snoop, is_there, is_unjudged_answer, kind_flit, other_asking_flit, other_at, other_kind_flit, pcrd_at, profile_if, read_of, request_at, request_fields_at, request_fields_of, request_flit, resp_at, response_at, retry_flit, return_flit, row_of, seen_of, snoop_fields_at, snoop_flit, transaction_at, unjudged_at, unjudged_reply, unjudged_request, word_at, words_there};
 
 use crate::opcodes::{
     CLEAN_INVALID, CLEAN_SHARED, CLEAN_UNIQUE, COMP, COMP_ACK, COMP_DATA, COMP_DBID_RESP,
     COPY_BACK_WR_DATA, EVICT, LOAD, MAKE_INVALID, MAKE_UNIQUE, NON_COPY_BACK_WR_DATA, OTHER_ANSWER,
-    OTHER_REPLY, OTHER_REQUEST, OTHER_SNOOP, PCRD_GRANT, PCRD_RETURN, READ_CLEAN,
-    READ_NOT_SHARED_DIRTY, READ_ONCE, READ_SHARED, READ_UNIQUE, RETRY_ACK, SNP_CLEAN,
-    SNP_CLEAN_INVALID, SNP_CLEAN_SHARED, SNP_MAKE_INVALID, SNP_NOT_SHARED_DIRTY, SNP_ONCE,
-    SNP_RESP, SNP_RESP_DATA, SNP_SHARED, SNP_UNIQUE, STORE, WRITE_BACK_FULL, WRITE_CLEAN_FULL,
-    WRITE_EVICT_FULL, WRITE_UNIQUE_FULL,
+    OTHER_REPLY, OTHER_REQUEST, OTHER_SNOOP, PCRD_GRANT, PCRD_RETURN, PREFETCH_TGT, READ_CLEAN,
+    READ_NOT_SHARED_DIRTY, READ_ONCE, READ_SHARED, READ_UNIQUE, REQ_LCRD_RETURN, RESP_LCRD_RETURN,
+    RETRY_ACK, SNP_CLEAN, SNP_CLEAN_INVALID, SNP_CLEAN_SHARED, SNP_LCRD_RETURN, SNP_MAKE_INVALID,
+    SNP_NOT_SHARED_DIRTY, SNP_ONCE, SNP_RESP, SNP_RESP_DATA, SNP_RESP_DATA_FWDED,
+    SNP_RESP_DATA_PTL, SNP_RESP_FWDED, SNP_SHARED, SNP_UNIQUE, SNP_UNIQUE_FWD, STORE,
+    WRITE_BACK_FULL, WRITE_CLEAN_FULL, WRITE_DATA_CANCEL, WRITE_EVICT_FULL, WRITE_UNIQUE_FULL,
 };
 use chi_flit::{Data, Kind, Snoop};
 use chi_trace::{
-    Address, AnyFlit, AnySeen, Beat, DbId, Flit, NodeId, OtherKind, OtherSnoop, PcrdType,
-    RequestFields, Resp, SnoopFields, Transaction, TxnId,
+    Address, AnyFlit, AnySeen, Beat, DbId, Flit, NodeId, OtherKind, OtherOpcode, OtherSnoop,
+    PcrdType, RequestFields, Resp, SnoopFields, Transaction, TxnId,
 };
+
+/// An opcode of a design's own: it is in no row.
+const OWN: OtherOpcode = OtherOpcode(255);
 
 /// A flit as a monitor sees it, or a load or a store: `ChiSeen` of `chihome.h`. Fields that its opcode hasn't aren't read.
 /// `reserved` is padding in C.
@@ -233,7 +237,7 @@ fn request_flit(opcode: u8, fields: RequestFields) -> Option<AnyFlit>
         WRITE_CLEAN_FULL => Some(kind_flit(Kind::WriteCleanFull, fields)),
         WRITE_EVICT_FULL => Some(kind_flit(Kind::WriteEvictFull, fields)),
         WRITE_UNIQUE_FULL => Some(other_kind_flit(OtherKind::WriteUniqueFull, fields)),
-        OTHER_REQUEST => Some(AnyFlit::UnknownRequest(fields)),
+        OTHER_REQUEST => Some(AnyFlit::UnknownRequest(OWN, fields)),
         _ => None,
     }
 }
@@ -277,7 +281,7 @@ fn snoop_flit(opcode: u8, fields: SnoopFields) -> Option<AnyFlit>
         SNP_UNIQUE => Some(asking_flit(Snoop::SnpUnique, fields)),
         SNP_CLEAN_INVALID => Some(asking_flit(Snoop::SnpCleanInvalid, fields)),
         SNP_MAKE_INVALID => Some(other_asking_flit(OtherSnoop::SnpMakeInvalid, fields)),
-        OTHER_SNOOP => Some(AnyFlit::UnknownSnoop(fields)),
+        OTHER_SNOOP => Some(AnyFlit::UnknownSnoop(OWN, fields)),
         _ => None,
     }
 }
@@ -446,9 +450,65 @@ fn other_at(seen: &ChiSeen) -> Option<AnyFlit>
     match seen.opcode {
         LOAD => Some(AnyFlit::Profile(Flit::Load { address, value })),
         STORE => Some(AnyFlit::Profile(Flit::Store { address, value })),
-        OTHER_ANSWER => Some(AnyFlit::UnknownAnswer(transaction_at(seen))),
-        OTHER_REPLY => Some(AnyFlit::UnknownReply(transaction_at(seen), dbid_named(seen))),
-        _ => None,
+        OTHER_ANSWER => Some(AnyFlit::UnknownAnswer(OWN, transaction_at(seen))),
+        OTHER_REPLY => Some(AnyFlit::UnknownReply(OWN, transaction_at(seen), dbid_named(seen))),
+        _ => unjudged_at(seen),
+    }
+}
+
+/// The row of an opcode in the table of those that aren't judged.
+fn row_of(opcode: u8) -> OtherOpcode
+    ensures { result ≡ row_of opcode }
+{
+    OtherOpcode(opcode.saturating_sub(REQ_LCRD_RETURN))
+}
+
+/// A request that isn't judged.
+fn unjudged_request(seen: &ChiSeen) -> Option<AnyFlit>
+    ensures { result ≡ unjudged_request seen.now }
+{
+    let fields = request_fields_at(seen)?;
+    Some(AnyFlit::UnknownRequest(row_of(seen.opcode), fields))
+}
+
+/// Whether it is the opcode of an answer to a snoop that isn't judged.
+fn is_unjudged_answer(opcode: u8) -> bool
+    ensures { result ≡ is_unjudged_answer opcode }
+{
+    opcode == SNP_RESP_FWDED || (SNP_RESP_DATA_PTL <= opcode && opcode <= SNP_RESP_DATA_FWDED)
+}
+
+/// A response or data that aren't judged.
+fn unjudged_reply(seen: &ChiSeen) -> AnyFlit
+    ensures { result ≡ unjudged_reply seen.now }
+{
+    let (row, transaction) = (row_of(seen.opcode), transaction_at(seen));
+    if is_unjudged_answer(seen.opcode) {
+        AnyFlit::UnknownAnswer(row, transaction)
+    } else {
+        AnyFlit::UnknownReply(row, transaction, dbid_named(seen))
+    }
+}
+
+/// Whether an opcode is one from the first to the last.
+fn is_between(first: u8, last: u8, opcode: u8) -> bool
+    ensures { result ≡ is_between first last opcode }
+{
+    first <= opcode && opcode <= last
+}
+
+/// A flit of Issue B that isn't judged.
+fn unjudged_at(seen: &ChiSeen) -> Option<AnyFlit>
+    ensures { result ≡ unjudged_at seen.now }
+{
+    if is_between(REQ_LCRD_RETURN, PREFETCH_TGT, seen.opcode) {
+        unjudged_request(seen)
+    } else if is_between(SNP_LCRD_RETURN, SNP_UNIQUE_FWD, seen.opcode) {
+        Some(AnyFlit::UnknownSnoop(row_of(seen.opcode), snoop_fields_at(seen)))
+    } else if is_between(RESP_LCRD_RETURN, WRITE_DATA_CANCEL, seen.opcode) {
+        Some(unjudged_reply(seen))
+    } else {
+        None
     }
 }
 

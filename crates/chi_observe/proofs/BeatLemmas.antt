@@ -1,7 +1,7 @@
 -- Data in beats beside whole data in the place of their first beat.
 use Rattle.std.proofs.Common.{rules, arith, ◌≡◌, ◌≢◌, ◌==◌, ℕ, List, refl, sym, ap, subst, ◌∙◌, true≢false}
 use Rattle.std.specs.Prelude.{Bool, true, false, ◌&&◌, ◌||◌, not, nat_lt, nat_eq, Option, Some, None, is_some, option_map, [], ◌∷◌, ◌++◌, if◌then◌else◌}
-use Rattle.std.specs.Cmp.Lexicographic.{pointwise}
+use Rattle.std.specs.Cmp.Lexicographic.{bytes_decides, pointwise}
 use Rattle.chi_trace.specs.declared.fields.NodeId.{NodeId}
 use Rattle.chi_flit.specs.declared.numbers.Agent.{Agent}
 use Rattle.chi_observer.specs.declared.flits.Act.{Act}
@@ -28,11 +28,10 @@ use Rattle.chi_observe.specs.declared.lines.LineNews.TheVariants as news
 use Rattle.chi_observe.specs.Judges.{Before, Judged, known_if}
 use Rattle.chi_observe.specs.Judges.Judged.{FromStart}
 use Rattle.chi_observe.specs.Lacking.{lacking_shown, may_show}
-use Rattle.chi_observe.specs.Lines.{LineState, apart_of, early_by, early_of, flit_next, heard_by, is_given, is_passed, is_wanted_free, is_wanted_known, lacks_of, line_next, marked_words, next_by, presented, put_aside, shown_next, shown_words, showing_by, takes_flit, takes_line, wanted_of, with_shown}
+use Rattle.chi_observe.specs.Lines.{LineState, apart_of, early_by, early_of, flit_next, is_given, is_passed, is_wanted_free, is_wanted_known, lacks_of, line_next, marked_words, next_by, presented, put_aside, shown_next, shown_words, showing_by, takes_flit, takes_line, wanted_of, with_shown}
 use Rattle.chi_observe.specs.Marks.{Marked, marks_after, shows_words}
 use Rattle.chi_observe.specs.InBeats.{AreAlike, all_wordless, behind_all, in_one, in_two, judged_line, takes_all, told_of}
 use Rattle.chi_observe.specs.Words.{lacks_some, left_of, words_with}
-use Rattle.chi_observe.proofs.EqualFlits.{words as same_words}
 
 -- marks
 pub untrue : {A : Type 0} → false ≡ true → A
@@ -187,14 +186,8 @@ goes_apart lacks.Data h v y m f e w q = untrue e
 goes_apart (lacks.Words unknown others had) h v y m f e w q =
     let none = shows_none f w in
     let kept = unlisted (homed v y) f q in
-    λ i. (not (none i) || is_wanted_free (wanted_of (line_of h (lacks.Words unknown others had) v y m) f)) && not (kept i)
-
-heard_same : (l : Lacking) (h : NodeId) (v : List ℕ) (y : WatchedWords) (m : Marked) (f : Flit) → is_wordless f ≡ true → heard_by l (line_of h l v y m) f ≡ f
-heard_same lacks.Nothing h v y m f w = refl
-heard_same lacks.Data h v y m f w = refl
-heard_same (lacks.Words unknown others had) h v y m f w =
-    let s = line_of h (lacks.Words unknown others had) v y m in
-    ap (λ (b : Bool). if b && lacks_some (left_of unknown (lacks_of f)) then presented s f (lacks_of f) else f) (tells_none (with_home v y.line) f w)
+    let asks = tells_none (with_home v y.line) f w in
+    λ i. (not (none i) || is_wanted_free (wanted_of (line_of h (lacks.Words unknown others had) v y m) f)) && (not (kept i) && not (asks i && lacks_some (left_of unknown (lacks_of f))))
 
 pub passed_by : (b : Bool) (t : Judged) → is_passed (known_if b t) ≡ b
 passed_by true t = refl
@@ -206,10 +199,9 @@ unfolding takes_line
 takes_step apart before home h l v y m n f e w q =
     let s = line_of h l v y m in
     let here : Flit → Bool = λ x. h.0 == home.0 && is_passed (known_if (takes_by_word (homed v y) x) (FromStart (watch_by_word (homed v y) x))) in
-    ap (λ (b : Bool). if b then takes_flit before s home n (Some (presented s f (lacks_of f))) else not (apart_of l s f) || here (heard_by l s f)) (not_showing l h v y m f w)
-    ∙ (ap (λ (b : Bool). not b || here (heard_by l s f)) (goes_apart l h v y m f e w q)
-    ∙ (ap here (heard_same l h v y m f w)
-    ∙ ap (λ (b : Bool). h.0 == home.0 && b) (passed_by (takes_by_word (homed v y) f) (FromStart (watch_by_word (homed v y) f)) ∙ (apart y v f w (unlisted y f q)).0)))
+    ap (λ (b : Bool). if b then takes_flit before s home n (Some (presented s f (lacks_of f))) else not (apart_of l s f) || here f) (not_showing l h v y m f w)
+    ∙ (ap (λ (b : Bool). not b || here f) (goes_apart l h v y m f e w q)
+    ∙ ap (λ (b : Bool). h.0 == home.0 && b) (passed_by (takes_by_word (homed v y) f) (FromStart (watch_by_word (homed v y) f)) ∙ (apart y v f w (unlisted y f q)).0))
 
 abbrev marks_at : Bool → ℕ → Flit → List ℕ → Marked → Marked
 marks_at b n f v m = if b then marks_after n f (Some v) m else m
@@ -225,11 +217,10 @@ unfolding line_next
 next_step apart before h l v y m n f e w q =
     let s = line_of h l v y m in
     let same = apart y v f w (unlisted y f q) in
-    ap (λ (b : Bool). if b then shown_next before s n f (lacks_of f) (lacking_shown l (lacks_of f)) else (if apart_of l s f then flit_next before s n (Some (heard_by l s f)) else put_aside s)) (not_showing l h v y m f w)
-    ∙ (ap (λ (b : Bool). if b then flit_next before s n (Some (heard_by l s f)) else put_aside s) (goes_apart l h v y m f e w q)
-    ∙ (ap (λ (x : Flit). flit_next before s n (Some x)) (heard_same l h v y m f w)
+    ap (λ (b : Bool). if b then shown_next before s n f (lacks_of f) (lacking_shown l (lacks_of f)) else (if apart_of l s f then flit_next before s n (Some f) else put_aside s)) (not_showing l h v y m f w)
+    ∙ (ap (λ (b : Bool). if b then flit_next before s n (Some f) else put_aside s) (goes_apart l h v y m f e w q)
     ∙ ((λ i. next_by (known_if (same.0 i) (FromStart (same.1 i))) s n f)
-    ∙ next_at (takes_by_word y f) h l v y (watch_by_word y f) m n f)))
+    ∙ next_at (takes_by_word y f) h l v y (watch_by_word y f) m n f))
 
 runs_step : WordlessFlitsAreApart → (before : Before) (h : NodeId) (l : Lacking) (v : List ℕ) (y : WatchedWords) (s : LineState) (n : ℕ) (f : Flit)
     → is_early l ≡ true → is_wordless f ≡ true → Runs s h l v y → Runs (line_next before s n (news.Flit (Some f))) h l v (behind_it y f)
@@ -420,7 +411,7 @@ known_home w (Down g) h =
     known_by (is_some o.home) (given_reach (shows_told g.grant (o.told g.agent.0)) (gives_data g.grant) (wanted_if (is_some o.home)) given)
 
 fits_home : (home : Option (List ℕ)) (u v : List ℕ) → home ≡ Some u → fits home v ≡ true → u ≡ v
-fits_home home u v is h = (same_words u v).0 (subst (λ (o : Option (List ℕ)). fits o v ≡ true) is h)
+fits_home home u v is h = (bytes_decides u v).0 (subst (λ (o : Option (List ℕ)). fits o v ≡ true) is h)
 
 each_home : {P : Type 0} (home : Option (List ℕ)) → is_some home ≡ true → ((u : List ℕ) → home ≡ Some u → P) → P
 each_home None h give = untrue h
@@ -436,7 +427,7 @@ of_held : KnownWordsAreTaken → (before : Before) (own home : NodeId) (w : Watc
     → AreAlike before home (judged_line own w m) (told_first n k (flit_with e (words_with (shown_words e) u lacking)) same ps) (in_one n e words ps)
 of_held known before own home w m n k e lacking words u ps true is has d agree held =
     let x = words_with (shown_words e) u lacking in
-    let as_it = (same_words x words).0 held in
+    let as_it = (bytes_decides x words).0 held in
     beside before own home w m n k (flit_with e x) (flit_with e words) ps (ap (λ (v : List ℕ). takes_by_word w (flit_with e v)) as_it) (ap (λ (v : List ℕ). watch_by_word w (flit_with e v)) as_it)
 of_held known before own home w m n k e lacking words u ps false is has d agree held =
     let x = words_with (shown_words e) u lacking in
@@ -445,7 +436,7 @@ of_held known before own home w m n k e lacking words u ps false is has d agree 
     let end = flit_with e words in
     let other : u ≡ words → x ≡ words = λ h. (λ i. words_with (d.words i) (h i) lacking) ∙ agree in
     let refused : takes_by_word w end ≡ false = by_bool (takes_by_word w end)
-    (λ h. absurd (true≢false (sym ((same_words x words).1 (other (fits_home w.line.seen.home u words has (subst (λ (y : List ℕ). fits w.line.seen.home y ≡ true) (words_as e words) (known w end (wanted_as w e words ∙ is) h))))) ∙ held)))
+    (λ h. absurd (true≢false (sym ((bytes_decides x words).1 (other (fits_home w.line.seen.home u words has (subst (λ (y : List ℕ). fits w.line.seen.home y ≡ true) (words_as e words) (known w end (wanted_as w e words ∙ is) h))))) ∙ held)))
     (λ h. h) in
     let rest = taken_through own home (behind_it w (flit_with e x)) ps in
     neither before home s (told_first n k (flit_with e x) false ps) (in_one n e words ps)

@@ -4,15 +4,9 @@ pub mod WordLemmas
 pub mod ReportLemmas
 pub mod MarkLemmas
 pub mod LineLemmas
+pub mod WatchLemmas
 mod RoomLemmas
 pub mod CopyLemmas
 mod LastLemmas
-mod EqualFlits
-mod EqualIds
-mod EqualLines
-mod EqualWatches
-mod EqualWords
-mod EqualTables
-mod EqualParts
 mod AnyBeats
 mod BeatLemmas

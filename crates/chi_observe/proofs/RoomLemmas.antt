@@ -31,6 +31,7 @@ use Rattle.chi_observe.specs.declared.tables.Change.{Change}
 use Rattle.chi_observe.specs.declared.tables.Part.{Part}
 use Rattle.chi_observe.specs.declared.tables.Part.TheVariants as parts
 use Rattle.chi_observe.specs.declared.steps.WatchOptions.{WatchOptions}
+use Rattle.chi_observe.specs.declared.lines.LineTold.{LineTold}
 use Rattle.chi_observe.specs.declared.watch.Aside.{Aside}
 use Rattle.chi_observe.specs.declared.watch.Counts.{Counts}
 use Rattle.chi_observe.specs.Credits.{account_numbers, booked, booked_all, is_same_account, with_event}
@@ -41,7 +42,7 @@ use Rattle.chi_observe.specs.Lines.{home_of}
 use Rattle.chi_observe.specs.Nodes.{adds_home, with_home, with_requester}
 use Rattle.chi_observe.specs.Grants.{granted, returned}
 use Rattle.chi_observe.specs.Steps.{ids_after}
-use Rattle.chi_observe.specs.Watched.{Watched, access_after, access_agent, access_counted, access_next, access_seen, counts_access, agent_in, table_in, allowed, beat_after, booking_after, by_part, counts_after, counts_aside, counts_first, credit_after, flit_after, left_over_after, line_after, nothing_watched, step, told_after, unopened_after}
+use Rattle.chi_observe.specs.Watched.{Watched, access_after, access_agent, access_at, access_counted, access_mark, access_next, access_seen, counts_access, counts_told, counts_unjudged, counts_whole, agent_in, flit_mark, flit_told, one_if, table_in, allowed, beat_after, booking_after, by_part, counts_after, counts_aside, counts_first, credit_after, flit_after, left_over_after, line_after, nothing_watched, step, told_after, unopened_after}
 
 -- none passes where there are no hits, and some where there are
 abbrev Counted : ℕ → ℕ → Type 0
@@ -285,21 +286,24 @@ aside_lines : (mark : Option Aside) (n : Counts) → (counts_aside mark n).lines
 aside_lines None n = refl
 aside_lines (Some mark) n = refl
 
-access_lines : (mark : Option Aside) (n : Counts) → (counts_access mark n).lines ≡ n.lines
-access_lines None n = refl
-access_lines (Some mark) n = refl
+access_lines : (told : LineTold) (mark : Option Aside) (n : Counts) → (counts_told told mark n).lines ≡ n.lines
+access_lines told None n = refl
+access_lines told (Some mark) n = refl
 
 first_lines : (fresh : Bool) (n : Counts) → (counts_first fresh n).lines ≡ n.lines + number_of fresh
 first_lines true n = refl
 first_lines false n = omega arith
 
-lines_after : (part : Part) (mark : Option Aside) (fresh : Bool) (n : Counts) → (counts_after part mark fresh n).lines ≤ n.lines + number_of fresh
-lines_after parts.Whole mark fresh n = omega (arith, aside_lines mark (counts_first fresh n), first_lines fresh n)
-lines_after (parts.First left) mark fresh n = omega (arith, aside_lines mark (counts_first fresh n), first_lines fresh n)
-lines_after (parts.Known tells) mark fresh n = omega (arith, aside_lines mark (counts_first fresh n), first_lines fresh n)
-lines_after parts.Further mark fresh n = omega (arith, aside_lines mark n)
-lines_after (parts.Held same) mark fresh n = omega (arith, aside_lines mark n)
-lines_after (parts.Last tells) mark fresh n = omega (arith, aside_lines mark n)
+whole_lines : (told : LineTold) (mark : Option Aside) (n : Counts) → (counts_aside mark (counts_whole told n)).lines ≤ n.lines + number_of told.fresh
+whole_lines told mark n = omega (arith, aside_lines mark (counts_whole told n), first_lines told.fresh n)
+
+lines_after : (part : Part) (told : LineTold) (mark : Option Aside) (n : Counts) → (counts_after part told mark n).lines ≤ n.lines + number_of told.fresh
+lines_after parts.Whole told mark n = whole_lines told mark n
+lines_after (parts.First left) told mark n = whole_lines told mark n
+lines_after (parts.Known tells) told mark n = whole_lines told mark n
+lines_after parts.Further told mark n = omega (arith, aside_lines mark n)
+lines_after (parts.Held same) told mark n = omega (arith, aside_lines mark n)
+lines_after (parts.Last tells) told mark n = omega (arith, aside_lines mark (counts_unjudged (one_if told.aside) n))
 
 lines_within : {S : Type 0} (found : Option S) (lines most : ℕ) → lines ≤ most → (is_some found || nat_lt lines most) ≡ true → lines + number_of (is_none found) ≤ most
 lines_within None lines most le room = omega (arith, ltb-true lines most room)
@@ -347,7 +351,7 @@ module _ (room : Room) (w w' : Watched) (h : IsWithin room w) where
           homes = homes_within (agent_in w e) e.sides.home w.homes room.homes h.homes nodes.1;
           ids = ids_within e.number change w.ids room.ids ids;
           accounts = all_booked_within change.books w.accounts room.accounts h.accounts account.0;
-          lines = le_trans (lines_after change.part _ (is_none (w.lines change.line.0)) w.counts) (lines_within (w.lines change.line.0) w.counts.lines room.lines h.lines line.0);
+          lines = le_trans (lines_after change.part (flit_told w e change) (flit_mark w e change) w.counts) (lines_within (w.lines change.line.0) w.counts.lines room.lines h.lines line.0);
         }
 
     told_within : (line_fits room w change.line && (account_fits room w (opens_account change.books w.accounts) && nodes_fit room w (agent_in w e) e.sides)) ≡ true
@@ -388,7 +392,7 @@ module _ (room : Room) (w w' : Watched) (h : IsWithin room w) where
   line_within e (Err reason) fits q = unopened_within e reason q
 
   counted_within : IsWithin room (access_counted w)
-  counted_within = same_within (counts_access None w.counts) refl w.past w.named
+  counted_within = same_within (counts_access false w.counts) refl w.past w.named
 
   access_within : (e : AccessEvent) (home : Option NodeId) → access_fits_at room w e home ≡ true → access_after w e home ≡ Some w' → IsWithin room w'
   access_within e None fits q = by _ q
@@ -404,7 +408,7 @@ module _ (room : Room) (w w' : Watched) (h : IsWithin room w) where
         homes = h.homes;
         ids = h.ids;
         accounts = h.accounts;
-        lines = subst (λ (n : ℕ). n ≤ room.lines) (sym (access_lines _ w.counts)) h.lines;
+        lines = subst (λ (n : ℕ). n ≤ room.lines) (sym (access_lines (access_at w e home) (access_mark w e home) w.counts)) h.lines;
       }
 
       by : (b : Bool) → cond b (Some (access_next w e home)) None ≡ Some w' → IsWithin room w'

@@ -42,3 +42,9 @@ first_of_more bytes line after more e =
     ∙ (ap (λ (q : List (List ℕ)). glue q (lines_of more)) e
     ∙ (glue_next line (lines_of after) (lines_of more) all.0 all.1 all.2
     ∙ ap (λ (q : List (List ℕ)). line ∷ q) (sym (split_append (λ b. b == 10) after more))))
+
+-- a line that no line end closes goes on with the first of the lines that follow
+pub goes_on_as : (line more : List ℕ) → lines_of line ≡ line ∷ [] → (first : List ℕ) × (others : List (List ℕ)) × (lines_of (line ++ more) ≡ (line ++ first) ∷ others)
+goes_on_as line more part =
+    let all = parts_of (λ (b : ℕ). b == 10) more in
+    (all.0, all.1, split_append (λ b. b == 10) line more ∙ (λ i. glue (part i) (all.2 i)))

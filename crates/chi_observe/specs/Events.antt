@@ -20,20 +20,20 @@ judged flit = if is_judged flit then Some flit else None
 abbrev pub told_by : Tells → Agent → Option Flit
 told_by (Sent act shown) agent = judged (Up (record { agent = agent; act = act; shown = shown }))
 told_by (Given grant shown) agent = judged (Down (record { agent = agent; grant = grant; shown = shown }))
-told_by Unjudged agent = None
+told_by (Unjudged opcode) agent = None
 told_by (NoForm resp) agent = None
 
 -- its words; of one that has none 0
 abbrev pub words_of : Tells → List ℕ
 words_of (Sent act words) = words
 words_of (Given grant words) = words
-words_of Unjudged = replicate 8 0
+words_of (Unjudged opcode) = replicate 8 0
 words_of (NoForm resp) = replicate 8 0
 
 abbrev pub with_words : Tells → List ℕ → Tells
 with_words (Sent act other) words = Sent act words
 with_words (Given grant other) words = Given grant words
-with_words Unjudged words = Unjudged
+with_words (Unjudged opcode) words = Unjudged opcode
 with_words (NoForm resp) words = NoForm resp
 
 abbrev pub flit_by : Tells → Option Agent → Option Flit

@@ -40,6 +40,10 @@ abbrev pub is_none_lacking : Lacking → Bool
 is_none_lacking lacks.Nothing = true
 is_none_lacking other = false
 
+abbrev pub is_data_lacking : Lacking → Bool
+is_data_lacking lacks.Data = true
+is_data_lacking other = false
+
 abbrev pub is_known_lacking : Lacking → Bool
 is_known_lacking lacks.Nothing = true
 is_known_lacking lacks.Data = false

@@ -1,4 +1,5 @@
 pub mod Reasons
+pub mod Causes
 pub mod Ids
 pub mod Credits
 pub mod Steps
@@ -22,6 +23,6 @@ pub mod Streams
 pub mod Pending
 pub mod Tallies
 pub mod Recent
+pub mod Told
 pub mod Reports
-pub mod Comparisons
 pub mod InBeats

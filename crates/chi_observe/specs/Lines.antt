@@ -29,7 +29,7 @@ use Rattle.chi_observe.specs.declared.reasons.LineReason.{LineReason}
 use Rattle.chi_observe.specs.declared.reasons.LineReason.TheVariants.{OtherHome, Rule}
 use Rattle.chi_observe.specs.Judges.{Before, Judged, Verdict, holds, is_judge_reason, judged, keeps_store, opened_from, told_in, told_words, verdict, wanted_in, worded}
 use Rattle.chi_observe.specs.Judges.Verdict.{Known, Faulty, LeftOpen}
-use Rattle.chi_observe.specs.Lacking.{is_known_lacking, is_none_lacking, lacking_shown, lacking_with, lacking_without, may_show, unknown_in}
+use Rattle.chi_observe.specs.Lacking.{is_known_lacking, is_data_lacking, is_none_lacking, lacking_shown, lacking_with, lacking_without, may_show, unknown_in}
 use Rattle.chi_observe.specs.Words.{agrees, but_one, lacks_some, left_of, none_lack, with_known, words_with}
 use Rattle.chi_observe.specs.Marks.{Marked, marked, marks_after, nothing_marked, shows_words, teller_of}
 
@@ -155,10 +155,14 @@ abbrev pub is_showing : LineState → Option Flit → Bool
 is_showing s None = false
 is_showing s (Some flit) = showing_by s.lacking s flit
 
+-- a load of a word that no flit has shown, which may tell of a store: the beat that lacks says what it may load
+abbrev pub asks_lacking : LineState → Flit → List Bool → Bool
+asks_lacking s flit unknown = may_tell (told_in s.told) flit && lacks_some (left_of unknown (lacks_of flit))
+
 abbrev pub apart_of : Lacking → LineState → Flit → Bool
 apart_of lacks.Nothing s flit = true
 apart_of lacks.Data s flit = false
-apart_of (lacks.Words unknown others had) s flit = (not (is_some (shows_words flit)) || is_wanted_free (wanted_of s flit)) && not (keeps_store s.told flit)
+apart_of (lacks.Words unknown others had) s flit = (not (is_some (shows_words flit)) || is_wanted_free (wanted_of s flit)) && (not (keeps_store s.told flit) && not (asks_lacking s flit unknown))
 
 abbrev pub is_apart : LineState → Option Flit → Bool
 is_apart s None = true
@@ -171,14 +175,6 @@ home_or s flit = unwrap_or (told_in s.told).seen.home (shown_words flit)
 
 abbrev pub presented : LineState → Flit → List Bool → Flit
 presented s flit lacking = with_shown flit (words_with (words_with (shown_words flit) (with_known (told_words s.told flit) (home_or s flit)) lacking) (home_or s flit) (unknown_in s.lacking))
-
--- a load that may tell of a store, of a word that no flit has shown, tells of none: it is one of the home's, which may be any
-abbrev pub heard_by : Lacking → LineState → Flit → Flit
-heard_by (lacks.Words unknown others had) s flit = if may_tell (told_in s.told) flit && lacks_some (left_of unknown (lacks_of flit)) then presented s flit (lacks_of flit) else flit
-heard_by other s flit = flit
-
-abbrev pub heard : LineState → Flit → Flit
-heard s flit = heard_by s.lacking s flit
 
 -- the home has the words that it is the first to show
 abbrev pub refilled : Option (List ℕ) → LineState → Flit → List Bool → LineState
@@ -208,7 +204,7 @@ abbrev pub takes_between : Before → LineState → NodeId → ℕ → Option Fl
 takes_between before s home number None = true
 takes_between before s home number (Some flit) =
     if is_showing s (Some flit) then takes_flit before s home number (Some (presented s flit (lacks_of flit)))
-    else not (is_apart s (Some flit)) || takes_flit before s home number (Some (heard s flit))
+    else not (is_apart s (Some flit)) || takes_flit before s home number (Some flit)
 
 abbrev pub takes_begun : Option Lacking → Before → LineState → NodeId → ℕ → Flit → Bool
 takes_begun None before s home number flit = true
@@ -235,7 +231,7 @@ abbrev pub between_next : Before → LineState → ℕ → Option Flit → LineS
 between_next before s number None = put_aside s
 between_next before s number (Some flit) =
     if is_showing s (Some flit) then shown_next before s number flit (lacks_of flit) (lacking_shown s.lacking (lacks_of flit))
-    else if is_apart s (Some flit) then flit_next before s number (Some (heard s flit)) else put_aside s
+    else if is_apart s (Some flit) then flit_next before s number (Some flit) else put_aside s
 
 abbrev pub early_next : Before → LineState → ℕ → Flit → LineState
 early_next before s number flit = marked_words s.marks.words (between_next before s number (Some flit))
@@ -272,6 +268,17 @@ line_next before s number news.Nothing = s
 abbrev pub is_put_aside : LineState → LineState → Bool
 is_put_aside old new = new.aside && not old.aside
 
+-- what came of telling it: of its first flit, or of a further one
+abbrev pub told_as : Bool → LineState → LineState → LineTold
+told_as fresh old new = record { fresh = fresh; aside = is_put_aside old new; judged = not new.aside; lacked = old.lacking }
+
+abbrev pub had_lacking : LineTold → Bool
+had_lacking told = not (is_none_lacking told.lacked)
+
+-- it set the line aside while data of it lacked words without which the line wasn't told of them
+abbrev pub forgets_data : LineTold → Bool
+forgets_data told = told.aside && is_data_lacking told.lacked
+
 -- which reasons hold
 abbrev pub is_flit_reason : Before → LineState → NodeId → Option Flit → LineReason → Bool
 is_flit_reason before s home None reason = false
@@ -280,7 +287,7 @@ is_flit_reason before s home (Some flit) (Rule reason) = is_judge_reason before 
 
 abbrev pub is_between_reason : Before → LineState → NodeId → Option Flit → LineReason → Bool
 is_between_reason before s home None reason = false
-is_between_reason before s home (Some flit) reason = is_flit_reason before s home (if is_showing s (Some flit) then Some (presented s flit (lacks_of flit)) else Some (heard s flit)) reason
+is_between_reason before s home (Some flit) reason = is_flit_reason before s home (if is_showing s (Some flit) then Some (presented s flit (lacks_of flit)) else Some flit) reason
 
 abbrev pub is_begun_reason : Option Lacking → Before → LineState → NodeId → Flit → LineReason → Bool
 is_begun_reason None before s home flit reason = false
@@ -354,8 +361,7 @@ IsLineTold before old new number home told result = IsNextOrKept (takes_line bef
 
 -- so among all lines
 pub record IsTaken (before : Before) (old new : ℕ → Option LineState) (number : ℕ) (line : CacheLine) (home : NodeId) (told : LineNews) (done : LineTold) : Type 0 where
-  pub first : done.fresh ≡ is_none (old line.0)
-  pub aside : done.aside ≡ is_put_aside (state_at before old number line home) (line_next before (state_at before old number line home) number told)
+  pub is : done ≡ told_as (is_none (old line.0)) (state_at before old number line home) (line_next before (state_at before old number line home) number told)
   pub taken : takes_line before (state_at before old number line home) home number told ≡ true
   pub after : new ≡ put_line line (line_next before (state_at before old number line home) number told) old
 

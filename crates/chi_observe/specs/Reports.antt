@@ -7,6 +7,7 @@ use Rattle.chi_script.specs.Files.{lines_of}
 use Rattle.chi_script.specs.declared.faults.Fault.{Fault}
 use Rattle.chi_script.specs.declared.faults.Fault.TheVariants as faults
 use Rattle.chi_trace.specs.Malformed.{malformed_front}
+use Rattle.chi_observe.specs.declared.reports.Demands.{Demands}
 use Rattle.chi_observe.specs.declared.reports.ObserveOutcome.{ObserveOutcome}
 use Rattle.chi_observe.specs.declared.reports.ObserveOutcome.TheVariants as outcomes
 use Rattle.chi_observe.specs.declared.steps.WatchOptions.{WatchOptions}
@@ -17,6 +18,7 @@ use Rattle.chi_observe.specs.declared.stream.TraceStop.TheVariants as stops
 use Rattle.chi_observe.specs.declared.watch.Counts.{Counts}
 use Rattle.chi_observe.specs.Pending.{is_open}
 use Rattle.chi_observe.specs.Streams.{trace_after}
+use Rattle.chi_observe.specs.Told.{IsAcceptedText, cut_line, is_nothing_judged, is_unjudged}
 use Rattle.chi_observe.specs.Watched.{Watched, nothing_watched}
 
 abbrev pub BeginsWith : List ℕ → List ℕ → Type 0
@@ -26,42 +28,54 @@ BeginsWith front text = (rest : List ℕ) × (text ≡ front ++ rest)
 abbrev pub is_nothing_seen : Counts → Bool
 is_nothing_seen counts = counts.flits == 0 && counts.accesses == 0
 
-abbrev pub ended_outcome : Bool → Bool → Counts → ObserveOutcome
-ended_outcome complete is_open counts =
+-- what isn't judged comes before what is open
+abbrev pub unjudged_outcome : Counts → ObserveOutcome
+unjudged_outcome counts = if is_nothing_judged counts then outcomes.Unjudged counts else outcomes.Partly counts
+
+abbrev pub ended_outcome : Demands → Bool → Counts → ObserveOutcome
+ended_outcome demands is_open counts =
     if is_nothing_seen counts then outcomes.Nothing else (
-    if complete && is_open then outcomes.Incomplete counts else outcomes.Accepted counts)
+    if demands.judged && is_unjudged counts then unjudged_outcome counts else (
+    if demands.complete && is_open then outcomes.Incomplete counts else outcomes.Accepted counts))
 
 -- what comes of a trace
-abbrev pub outcome_of : Bool → Result Watched TraceStop → ObserveOutcome
-outcome_of complete (Ok w) = ended_outcome complete (is_open w) w.counts
-outcome_of complete (Err (stops.Malformed fault)) = outcomes.Malformed fault
-outcome_of complete (Err (stops.Untaken n)) = outcomes.Faulty n
+abbrev pub outcome_of : Demands → Result Watched TraceStop → ObserveOutcome
+outcome_of demands (Ok w) = ended_outcome demands (is_open w) w.counts
+outcome_of demands (Err (stops.Malformed fault)) = outcomes.Malformed fault
+outcome_of demands (Err (stops.Untaken n)) = outcomes.Faulty n
 
 -- the same of a watch that has taken all lines, or stopped
-abbrev pub IsOutcomeOf : Bool → Watched → Option TextStop → ObserveOutcome → Type 0
-IsOutcomeOf complete w None outcome = outcome ≡ ended_outcome complete (is_open w) w.counts
-IsOutcomeOf complete w (Some (texts.Malformed fault)) outcome = outcome ≡ outcomes.Malformed fault
-IsOutcomeOf complete w (Some (texts.Untaken seen fault)) outcome = outcome ≡ outcomes.Faulty seen.line
-IsOutcomeOf complete w (Some texts.NoMemory) outcome = ⊥
+abbrev pub IsOutcomeOf : Demands → Watched → Option TextStop → ObserveOutcome → Type 0
+IsOutcomeOf demands w None outcome = outcome ≡ ended_outcome demands (is_open w) w.counts
+IsOutcomeOf demands w (Some (texts.Malformed fault)) outcome = outcome ≡ outcomes.Malformed fault
+IsOutcomeOf demands w (Some (texts.Untaken seen fault)) outcome = outcome ≡ outcomes.Faulty seen.line
+IsOutcomeOf demands w (Some texts.NoMemory) outcome = ⊥
 
--- how the text begins
-abbrev pub accepted_line : Counts → List ℕ
-accepted_line counts = codes "accepted " ++ (decimal counts.flits ++ (codes " flits on " ++ (decimal counts.lines ++ (codes " lines" ++ (10 ∷ [])))))
+-- what is told
+abbrev pub nothing_text : Counts → List ℕ
+nothing_text counts = cut_line counts.cut ++ codes "no flit, load or store is in the trace\n"
 
 abbrev pub numbered : ℕ → List ℕ
 numbered n = codes "line " ++ (decimal n ++ codes ": ")
 
-abbrev pub IsReportText : ObserveOutcome → List ℕ → Type 0
-IsReportText (outcomes.Accepted counts) text = BeginsWith (accepted_line counts) text
-IsReportText (outcomes.Incomplete counts) text = BeginsWith (accepted_line counts) text
-IsReportText outcomes.Nothing text = text ≡ codes "no flit, load or store is in the trace\n"
-IsReportText (outcomes.Faulty n) text = BeginsWith (numbered n) text
-IsReportText (outcomes.Malformed fault) text = BeginsWith (malformed_front fault) text
+abbrev pub IsReportText : Watched → ObserveOutcome → List ℕ → Type 0
+IsReportText w (outcomes.Accepted counts) text = IsAcceptedText w text
+IsReportText w (outcomes.Incomplete counts) text = IsAcceptedText w text
+IsReportText w (outcomes.Partly counts) text = IsAcceptedText w text
+IsReportText w (outcomes.Unjudged counts) text = IsAcceptedText w text
+IsReportText w outcomes.Nothing text = text ≡ nothing_text w.counts
+IsReportText w (outcomes.Faulty n) text = BeginsWith (numbered n) text
+IsReportText w (outcomes.Malformed fault) text = BeginsWith (malformed_front fault) text
+
+abbrev pub IsTextOf : Result Watched TraceStop → ObserveOutcome → List ℕ → Type 0
+IsTextOf (Ok w) outcome text = IsReportText w outcome text
+IsTextOf (Err (stops.Malformed fault)) outcome text = BeginsWith (malformed_front fault) text
+IsTextOf (Err (stops.Untaken n)) outcome text = BeginsWith (numbered n) text
 
 -- the report on a trace: what comes of its lines, taken one after the other from a watch that has seen nothing
-pub record IsObserved (options : WatchOptions) (complete : Bool) (file : List ℕ) (outcome : ObserveOutcome) (text : List ℕ) : Type 0 where
-  pub judged : outcome ≡ outcome_of complete (trace_after (nothing_watched options) 1 (lines_of file))
-  pub told : IsReportText outcome text
+pub record IsObserved (options : WatchOptions) (demands : Demands) (file : List ℕ) (outcome : ObserveOutcome) (text : List ℕ) : Type 0 where
+  pub judged : outcome ≡ outcome_of demands (trace_after (nothing_watched options) 1 (lines_of file))
+  pub told : IsTextOf (trace_after (nothing_watched options) 1 (lines_of file)) outcome text
 
 -- it was written, but where the trace is malformed: then nothing was
 abbrev pub IsReportWritten : ObserveOutcome → Option (List ℕ) → Option (List ℕ) → List ℕ → Type 0
@@ -73,10 +87,10 @@ is_malformed (outcomes.Malformed fault) = true
 is_malformed other = false
 
 -- or a front of it, no more
-pub record IsReportFront (options : WatchOptions) (complete : Bool) (file : List ℕ) (old new : Option (List ℕ)) : Type 0 where
+pub record IsReportFront (options : WatchOptions) (demands : Demands) (file : List ℕ) (old new : Option (List ℕ)) : Type 0 where
   pub outcome : ObserveOutcome
   pub text : List ℕ
-  pub report : IsObserved options complete file outcome text
+  pub report : IsObserved options demands file outcome text
   pub wellformed : is_malformed outcome ≡ false
   pub front : AppendsFront old new text
 

@@ -203,10 +203,10 @@ event_by s (any.Snoop snoop fields) = snoop_event s (other_snoop_named snoop) fi
 event_by s (any.CompUC t) = down s t.target t.address (steps.CompleteWith t.txn None) (Given grants.CompUC no_data)
 event_by s (any.CompData resp t beat) = read_event s t resp None beat
 event_by s (any.NonCopyBackWrData resp t beat) = up s t.target t.address (steps.WriteData (named_buffer t) beat.there) (whole_written_told resp beat)
-event_by s (any.UnknownRequest fields) = up s fields.target None (steps.UnknownRequest fields.txn (line_of fields.address) fields.spends) Unjudged
-event_by s (any.UnknownSnoop fields) = down s fields.target None (steps.UnknownSnoop fields.txn (line_of fields.address)) Unjudged
-event_by s (any.UnknownAnswer t) = up s t.target t.address (steps.UnknownAnswer t.txn) Unjudged
-event_by s (any.UnknownReply t dbid) = down s t.target t.address (steps.UnknownReply t.txn dbid) Unjudged
+event_by s (any.UnknownRequest opcode fields) = up s fields.target None (steps.UnknownRequest fields.txn (line_of fields.address) fields.spends) (Unjudged opcode)
+event_by s (any.UnknownSnoop opcode fields) = down s fields.target None (steps.UnknownSnoop fields.txn (line_of fields.address)) (Unjudged opcode)
+event_by s (any.UnknownAnswer opcode t) = up s t.target t.address (steps.UnknownAnswer t.txn) (Unjudged opcode)
+event_by s (any.UnknownReply opcode t dbid) = down s t.target t.address (steps.UnknownReply t.txn dbid) (Unjudged opcode)
 
 abbrev pub event_of : AnySeen → Event
 event_of seen = event_by seen seen.flit

@@ -36,11 +36,15 @@ use Rattle.chi_observe.specs.declared.watch.WatchFault.{WatchFault}
 use Rattle.chi_observe.specs.declared.watch.WatchFault.TheVariants as faults
 use Rattle.chi_observe.specs.declared.watch.WatchStop.{WatchStop}
 use Rattle.chi_observe.specs.declared.watch.WatchStop.TheVariants as stops
+use Rattle.chi_observe.specs.declared.causes.Cause.{Cause}
+use Rattle.chi_observe.specs.declared.causes.CauseRow.{CauseRow}
+use Rattle.chi_observe.specs.declared.lines.LineTold.{LineTold}
+use Rattle.chi_observe.specs.Causes.{cause_of, caused}
 use Rattle.chi_observe.specs.Credits.{booked, booked_all}
 use Rattle.chi_observe.specs.Events.{flit_by, news_of, with_words}
 use Rattle.chi_observe.specs.Judges.{Before, is_at_home, is_cut, last_of}
 use Rattle.chi_observe.specs.LeftOver.{is_left_over, last_behind, named_after, named_behind}
-use Rattle.chi_observe.specs.Lines.{LineState, early_of, home_of, is_aside, is_line_reason, is_put_aside, line_next, lines_in, put_line, state_at, takes_line}
+use Rattle.chi_observe.specs.Lines.{LineState, early_of, home_of, is_aside, forgets_data, is_line_reason, line_next, lines_in, put_line, state_at, takes_line, told_as}
 use Rattle.chi_observe.specs.Nodes.{agent_of, with_home, with_requester}
 use Rattle.chi_observe.specs.Grants.{granted, returned}
 use Rattle.chi_observe.specs.Steps.{change_of, ids_after}
@@ -56,6 +60,7 @@ pub record Watched : Type 0 where
   pub accounts : List (AccountNumbers × Account)
   pub lines : ℕ → Option LineState
   pub counts : Counts
+  pub causes : List CauseRow
   pub past : ℕ → ℕ
   pub named : List (KeyNumbers × OpenId)
 
@@ -68,16 +73,17 @@ watched w = record {
   accounts = w.accounts.entries;
   lines = lines_in w.lines.entries;
   counts = w.counts;
+  causes = w.causes.items;
   past = last_of w.last;
   named = w.named.entries;
 }
 
 -- no flit was seen
 abbrev pub nothing_counted : Counts
-nothing_counted = record { flits = 0; accesses = 0; lines = 0; aside = 0; first_aside = None }
+nothing_counted = record { flits = 0; unjudged = 0; left_over = 0; accesses = 0; unseen = 0; lines = 0; aside = 0; first_aside = None; cut = None }
 
 abbrev pub nothing_watched : WatchOptions → Watched
-nothing_watched options = record { options = options; requesters = []; homes = []; ids = []; accounts = []; lines = λ l. None; counts = nothing_counted; past = last_of (replicate 32 0); named = [] }
+nothing_watched options = record { options = options; requesters = []; homes = []; ids = []; accounts = []; lines = λ l. None; counts = nothing_counted; causes = []; past = last_of (replicate 32 0); named = [] }
 
 abbrev pub before_in : Watched → Before
 before_in w = record { log = w.options.log; stores = w.options.stores; last = w.past }
@@ -92,7 +98,7 @@ formed tells change = change
 
 -- what it tells its line's observer: by the agent that its requester is, if it is judged
 abbrev pub agent_by : Watched → Sides → Tells → Option Agent
-agent_by w sides Unjudged = None
+agent_by w sides (Unjudged opcode) = None
 agent_by w sides tells = agent_of w.requesters w.homes sides
 
 abbrev pub agent_in : Watched → LineEvent → Option Agent
@@ -140,14 +146,21 @@ allowed w e = all_ready w e (changed w e)
 abbrev pub news_in : Watched → LineEvent → Change → LineNews
 news_in w e change = news_of e.tells change.part (agent_in w e)
 
--- what it sets aside: a line that was judged so far
-abbrev pub mark_if : Bool → CacheLine → ℕ → Option Aside
-mark_if aside line number = if aside then Some (record { number = number; line = line }) else None
+-- what its line was told
+abbrev pub told_at : Before → (ℕ → Option LineState) → CacheLine → NodeId → LineNews → ℕ → LineTold
+told_at before lines line home told number = told_as (is_none (lines line.0)) (state_at before lines number line home) (line_next before (state_at before lines number line home) number told)
 
-abbrev pub mark_of : Before → (ℕ → Option LineState) → CacheLine → NodeId → LineNews → ℕ → Option Aside
-mark_of before lines line home told number = mark_if (is_put_aside (state_at before lines number line home) (line_next before (state_at before lines number line home) number told)) line number
+-- what it sets aside: a line that was judged so far, for this cause
+abbrev pub mark_if : Cause → LineTold → CacheLine → ℕ → Option Aside
+mark_if cause told line number = if told.aside then Some (record { number = number; line = line; cause = cause }) else None
+
+abbrev pub mark_in : Watched → Tells → Option Agent → LineTold → CacheLine → ℕ → Option Aside
+mark_in w tells agent told line number = mark_if (cause_of w.options tells agent told) told line number
 
 -- a flit more, which is the first of its line, or sets it aside
+abbrev pub one_if : Bool → ℕ
+one_if b = if b then 1 else 0
+
 abbrev pub counts_first : Bool → Counts → Counts
 counts_first fresh n = record n { flits = n.flits + 1; lines = if fresh then n.lines + 1 else n.lines }
 
@@ -155,16 +168,38 @@ abbrev pub counts_aside : Option Aside → Counts → Counts
 counts_aside None n = n
 counts_aside (Some mark) n = record n { aside = n.aside + 1; first_aside = Some (unwrap_or n.first_aside mark) }
 
-abbrev pub counts_after : Part → Option Aside → Bool → Counts → Counts
-counts_after parts.Whole aside fresh n = counts_aside aside (counts_first fresh n)
-counts_after (parts.First left) aside fresh n = counts_aside aside (counts_first fresh n)
-counts_after (parts.Known tells) aside fresh n = counts_aside aside (counts_first fresh n)
-counts_after parts.Further aside fresh n = counts_aside aside n
-counts_after (parts.Held same) aside fresh n = counts_aside aside n
-counts_after (parts.Last tells) aside fresh n = counts_aside aside n
+-- Flits that no observer was told of: one whose line isn't judged behind it, and data that its line wasn't told of yet where
+-- it sets the line aside.
+abbrev pub counts_unjudged : ℕ → Counts → Counts
+counts_unjudged flits n = record n { unjudged = n.unjudged + flits }
 
-abbrev pub counts_access : Option Aside → Counts → Counts
-counts_access aside n = counts_aside aside (record n { accesses = n.accesses + 1 })
+abbrev pub counts_whole : LineTold → Counts → Counts
+counts_whole told n = counts_unjudged (one_if (forgets_data told)) (counts_unjudged (one_if (not told.judged)) (counts_first told.fresh n))
+
+abbrev pub counts_after : Part → LineTold → Option Aside → Counts → Counts
+counts_after parts.Whole told aside n = counts_aside aside (counts_whole told n)
+counts_after (parts.First left) told aside n = counts_aside aside (counts_whole told n)
+counts_after (parts.Known tells) told aside n = counts_aside aside (counts_whole told n)
+counts_after parts.Further told aside n = counts_aside aside n
+counts_after (parts.Held same) told aside n = counts_aside aside n
+counts_after (parts.Last tells) told aside n = counts_aside aside (counts_unjudged (one_if told.aside) n)
+
+-- a load or a store, of which an observer was told or wasn't; and one of which its line was told
+abbrev pub counts_access : Bool → Counts → Counts
+counts_access judged n = record n { accesses = n.accesses + 1; unseen = n.unseen + one_if (not judged) }
+
+abbrev pub counts_told : LineTold → Option Aside → Counts → Counts
+counts_told told aside n = counts_aside aside (counts_unjudged (one_if (forgets_data told)) (counts_access told.judged n))
+
+-- a flit that names an id from before the trace
+abbrev pub counts_left_over : Counts → Counts
+counts_left_over n = record n { flits = n.flits + 1; unjudged = n.unjudged + 1; left_over = n.left_over + 1 }
+
+abbrev pub flit_told : Watched → LineEvent → Change → LineTold
+flit_told w e change = told_at (before_in w) w.lines change.line e.sides.home (news_in w e change) e.number
+
+abbrev pub flit_mark : Watched → LineEvent → Change → Option Aside
+flit_mark w e change = mark_in w e.tells (agent_in w e) (flit_told w e change) change.line e.number
 
 -- a flit of a line that does this, and a beat that is neither its first nor its last
 abbrev pub flit_after : Watched → LineEvent → Change → Watched
@@ -175,7 +210,8 @@ flit_after w e change = record {
   ids = ids_after e.number change w.ids;
   accounts = booked_all change.books w.accounts;
   lines = put_line change.line (line_next (before_in w) (state_at (before_in w) w.lines e.number change.line e.sides.home) e.number (news_in w e change)) w.lines;
-  counts = counts_after change.part (mark_of (before_in w) w.lines change.line e.sides.home (news_in w e change) e.number) (is_none (w.lines change.line.0)) w.counts;
+  counts = counts_after change.part (flit_told w e change) (flit_mark w e change) w.counts;
+  causes = caused (flit_mark w e change) w.causes;
   past = w.past;
   named = named_after w.options change.frees w.named;
 }
@@ -198,7 +234,7 @@ by_part w e change (parts.Last tells) = told_after w e change
 -- a flit that names an id from before
 abbrev pub left_over_after : Watched → LineEvent → IdKey → Watched
 left_over_after w e key = record w {
-  counts = record w.counts { flits = w.counts.flits + 1 };
+  counts = counts_left_over w.counts;
   past = last_behind w.requesters e.sides.requester e.number w.past;
   named = named_behind e key w.named;
 }
@@ -225,11 +261,18 @@ access_agent w e home = agent_of w.requesters w.homes (record { requester = e.re
 abbrev pub access_news : Watched → AccessEvent → NodeId → LineNews
 access_news w e home = news.Flit (flit_by e.tells (access_agent w e home))
 
+abbrev pub access_at : Watched → AccessEvent → NodeId → LineTold
+access_at w e home = told_at (before_in w) w.lines e.line home (access_news w e home) e.number
+
+abbrev pub access_mark : Watched → AccessEvent → NodeId → Option Aside
+access_mark w e home = mark_in w e.tells (access_agent w e home) (access_at w e home) e.line e.number
+
 abbrev pub access_next : Watched → AccessEvent → NodeId → Watched
 access_next w e home = record w {
   requesters = with_requester (access_agent w e home) e.requester w.requesters;
   lines = put_line e.line (line_next (before_in w) (state_at (before_in w) w.lines e.number e.line home) e.number (access_news w e home)) w.lines;
-  counts = counts_access (mark_of (before_in w) w.lines e.line home (access_news w e home) e.number) w.counts;
+  counts = counts_told (access_at w e home) (access_mark w e home) w.counts;
+  causes = caused (access_mark w e home) w.causes;
 }
 
 abbrev pub access_told : Watched → AccessEvent → NodeId → Option Watched
@@ -238,7 +281,7 @@ access_told w e home = if takes_line (before_in w) (state_at (before_in w) w.lin
 -- of a line that no flit has touched no cache has a copy; where the trace is cut out of a longer one it may be any. A home
 -- sees none
 abbrev pub access_counted : Watched → Watched
-access_counted w = record w { counts = counts_access None w.counts }
+access_counted w = record w { counts = counts_access false w.counts }
 
 abbrev pub access_after : Watched → AccessEvent → Option NodeId → Option Watched
 access_after w e None = if is_cut w.options then Some (access_counted w) else None
@@ -269,15 +312,16 @@ IsFault w (events.Returned sides pcrd) (faults.Ids reason) = returned w.options 
 IsFault w e fault = ⊥
 
 -- what a flit of an agent leaves, but of its line
-abbrev pub settled : Watched → LineEvent → Change → Option Agent → Option Aside → Bool → Watched
-settled w e change agent mark fresh = record {
+abbrev pub settled : Watched → LineEvent → Change → Option Agent → LineTold → Watched
+settled w e change agent told = record {
   options = w.options;
   requesters = with_requester agent e.sides.requester w.requesters;
   homes = with_home agent e.sides.home w.homes;
   ids = ids_after e.number change w.ids;
   accounts = booked_all change.books w.accounts;
   lines = w.lines;
-  counts = counts_after change.part mark fresh w.counts;
+  counts = counts_after change.part told (mark_in w e.tells agent told change.line e.number) w.counts;
+  causes = caused (mark_in w e.tells agent told change.line e.number) w.causes;
   past = w.past;
   named = named_after w.options change.frees w.named;
 }
@@ -295,8 +339,12 @@ IsFlitWatched old new e change (Err (stops.Fault (faults.Line reason))) = IsLine
 IsFlitWatched old new e change (Err stops.NoMemory) = Unit {0}
 
 -- so of a load or a store
-abbrev pub access_settled : Watched → AccessEvent → Option Agent → Option Aside → Watched
-access_settled w e agent mark = record w { requesters = with_requester agent e.requester w.requesters; counts = counts_access mark w.counts }
+abbrev pub access_settled : Watched → AccessEvent → Option Agent → LineTold → Watched
+access_settled w e agent told = record w {
+  requesters = with_requester agent e.requester w.requesters;
+  counts = counts_told told (mark_in w e.tells agent told e.line e.number) w.counts;
+  causes = caused (mark_in w e.tells agent told e.line e.number) w.causes;
+}
 
 pub record IsAccessRefused (old new : Watched) (e : AccessEvent) (home : NodeId) (reason : LineReason) : Type 0 where
   pub refused : access_told old e home ≡ None

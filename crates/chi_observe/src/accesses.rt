@@ -3,12 +3,13 @@
 ghost use Rattle.std.specs.Prelude.{◌≡◌, OnOk};
 ghost use Rattle.chi_observe.specs.Watched.{IsAccessWatched, IsWatched, access_agent, access_counted, access_settled, watched};
 
+use crate::causes::add_cause;
 use crate::events::{AccessEvent, Event, flit_by};
 use crate::judges::Before;
-use crate::lines::{LineNews, LineStop, home_of, tell};
+use crate::lines::{LineNews, LineStop, LineTold, home_of, tell};
 use crate::nodes::{add_requester, agent_of};
 use crate::reasons::LineReason;
-use crate::watch::{Aside, Watch, WatchFault, WatchStop, mark_of};
+use crate::watch::{Watch, WatchFault, WatchStop, mark_of};
 use chi_flit::Agent;
 use chi_ids::Sides;
 use chi_observer::Reason;
@@ -27,19 +28,28 @@ impl<A: Allocator> Watch<A> {
         agent_of(&self.requesters, &self.homes, sides)
     }
 
-    /// What a load or a store of this agent leaves, but of its line.
+    /// What a load or a store of this agent leaves, but of its line, which was told so.
     fn settle_access(
         &mut self,
         event: &AccessEvent,
         agent: Option<Agent>,
-        mark: Option<Aside>,
+        told: &LineTold,
     ) -> Result<(), AllocError>
         ensures { OnOk result
-            (watched self.new ≡ access_settled (watched self.old) event.now agent mark) }
+            (watched self.new ≡ access_settled (watched self.old) event.now agent told.now) }
     {
-        let Some(counts) = self.counts.with_access(mark) else {
+        let mark = mark_of(
+            self.options,
+            &event.tells,
+            agent,
+            told,
+            event.line,
+            event.number,
+        );
+        let Some(counts) = self.counts.with_told_access(told, mark) else {
             return Err(AllocError);
         };
+        add_cause(&mut self.causes, mark)?;
         add_requester(&mut self.requesters, agent, event.requester)?;
         self.counts = counts;
         Ok(())
@@ -67,10 +77,7 @@ impl<A: Allocator + Copy> Watch<A> {
             &news,
             event.number,
         ) {
-            Ok(told) => {
-                let mark = mark_of(told, event.line, event.number);
-                Ok(self.settle_access(event, agent, mark)?)
-            }
+            Ok(told) => Ok(self.settle_access(event, agent, &told)?),
             Err(LineStop::Refused(reason)) => { Err(WatchStop::Fault(WatchFault::Line(reason))) }
             Err(LineStop::NoMemory) => Err(WatchStop::NoMemory),
         }
@@ -82,7 +89,7 @@ impl<A: Allocator + Copy> Watch<A> {
         ensures { OnOk result
             (watched self.new ≡ access_counted (watched self.old)) }
     {
-        let Some(counts) = self.counts.with_access(None) else {
+        let Some(counts) = self.counts.with_access(false) else {
             return Err(AllocError);
         };
         self.counts = counts;

@@ -1,7 +1,8 @@
 //! A watch for a bench: it takes flits without an end, and keeps the first that isn't taken.
 
-ghost use Rattle.std.specs.Prelude.{◌≡◌, IfOk, None};
+ghost use Rattle.std.specs.Prelude.{◌≡◌, IfOk, None, string_bytes};
 ghost use Rattle.chi_observe.specs.Benches.{IsSeen, IsSeenNext, benched, is_line_aside, nothing_benched};
+ghost use Rattle.chi_observe.specs.Told.{IsUnjudgedText};
 ghost use Rattle.chi_observe.specs.Watched.{watched};
 
 use crate::bounded::{BoundedStop, BoundedWatch, Room};
@@ -109,6 +110,15 @@ impl<A: Allocator + Copy> BenchWatch<A> {
                 Judged::NoMemory
             }
         }
+    }
+
+    /// The lines that `observe` prints of flits, loads and stores that aren't judged; empty where each is.
+    /// Source: `docs/OBSERVER.md`, "What isn't judged".
+    pub fn unjudged_text(&self, alloc: A) -> Result<String<A>, AllocError>
+        ensures { IfOk result
+            (λ text. IsUnjudgedText (benched self.now).told.told (string_bytes text)) }
+    {
+        self.bounded.watch.unjudged_text(alloc)
     }
 
     /// The line that `observe` prints of the first flit that isn't taken, without its end; empty where each was taken. No

@@ -6,6 +6,7 @@ ghost use Rattle.chi_observe.specs.Bounded.{IsBoundedTaken, access_fits, account
 ghost use Rattle.chi_observe.specs.Nodes.{adds_home};
 ghost use Rattle.chi_observe.specs.Watched.{allowed, nothing_watched, watched};
 
+use crate::causes::MOST_CAUSES;
 use crate::credits::{AccountTable, Booking, account_numbers};
 use crate::events::{AccessEvent, Event, LineEvent};
 use crate::ids::{IdTable, OpenId, find_id};
@@ -185,6 +186,7 @@ impl<A: Allocator + Copy> Watch<A> {
         let accounts = accounts_with(alloc, room.accounts)?;
         let ids = ids_with(alloc, room.ids)?;
         let lines = lines_with(alloc, room.lines)?;
+        let causes = Vec::with_capacity(alloc, MOST_CAUSES)?;
         Ok(Watch {
             options,
             requesters,
@@ -194,6 +196,7 @@ impl<A: Allocator + Copy> Watch<A> {
             lines,
             spare,
             counts: Counts::NOTHING,
+            causes,
             last: [0; 32],
             named: IndexMap::new(alloc),
         })

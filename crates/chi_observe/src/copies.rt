@@ -9,6 +9,7 @@ ghost use Rattle.chi_observe.specs.Watched.{watched};
 
 use crate::benches::BenchWatch;
 use crate::bounded::{BoundedWatch, Room, marks_with};
+use crate::causes::{CauseRow, MOST_CAUSES};
 use crate::credits::AccountTable;
 use crate::ids::IdTable;
 use crate::lines::{LineSeen, LineTable};
@@ -63,6 +64,18 @@ fn nodes_copy<A: Allocator + Copy>(
     Ok(copy)
 }
 
+/// The same causes, with memory for as many as there are.
+fn causes_copy<A: Allocator + Copy>(
+    alloc: A,
+    causes: &[CauseRow],
+) -> Result<Vec<CauseRow, A>, AllocError>
+    ensures { IfOk result (λ copy. copy.items ≡ causes.now) }
+{
+    let mut copy = Vec::with_capacity(alloc, MOST_CAUSES)?;
+    copy.extend_from_slice(causes)?;
+    Ok(copy)
+}
+
 /// The same ids, with memory for so many.
 fn ids_copy<A: Allocator + Copy>(ids: &IdTable<A>, most: usize) -> Result<IdTable<A>, AllocError>
     ensures { IfOk result (λ copy. copy.entries ≡ ids.now.entries) }
@@ -108,6 +121,7 @@ impl<A: Allocator + Copy> Watch<A> {
         let ids = ids_copy(&self.ids, room.ids)?;
         let named = ids_copy(&self.named, 0)?;
         let lines = lines_copy(&self.lines, room.lines)?;
+        let causes = causes_copy(alloc, &self.causes)?;
         Ok(Watch {
             options: self.options,
             requesters,
@@ -117,6 +131,7 @@ impl<A: Allocator + Copy> Watch<A> {
             lines,
             spare,
             counts: self.counts,
+            causes,
             last: self.last,
             named,
         })

@@ -10,7 +10,7 @@ use crate::tables::Part;
 use chi_flit::{Agent, Data, NO_DATA};
 use chi_ids::{CacheLine, Sides};
 use chi_observer::{Act, CacheFlit, Flit, Grant, HomeFlit};
-use chi_trace::{NodeId, PcrdType, Resp};
+use chi_trace::{NodeId, OtherOpcode, PcrdType, Resp};
 
 /// What a flit of a line tells of it.
 /// Source: `docs/OBSERVER.md`, "A trace of many lines".
@@ -20,8 +20,8 @@ pub enum Tells {
     Sent(Act, Data),
     /// The same of the home.
     Given(Grant, Data),
-    /// It isn't judged.
-    Unjudged,
+    /// It isn't judged: a flit of this opcode.
+    Unjudged(OtherOpcode),
     /// No flit of the opcode has this RESP.
     NoForm(Resp),
 }
@@ -81,7 +81,7 @@ pub(crate) fn flit_by(tells: &Tells, agent: Option<Agent>) -> Option<Flit>
             grant: *grant,
             shown: *shown,
         })),
-        Tells::Unjudged => None,
+        Tells::Unjudged(_) => None,
         Tells::NoForm(_) => None,
     }
 }
@@ -94,7 +94,7 @@ impl Tells {
         match self {
             Tells::Sent(_, words) => words,
             Tells::Given(_, words) => words,
-            Tells::Unjudged => NO_DATA,
+            Tells::Unjudged(_) => NO_DATA,
             Tells::NoForm(_) => NO_DATA,
         }
     }
@@ -106,7 +106,7 @@ impl Tells {
         match self {
             Tells::Sent(act, _) => Tells::Sent(act, words),
             Tells::Given(grant, _) => Tells::Given(grant, words),
-            Tells::Unjudged => Tells::Unjudged,
+            Tells::Unjudged(opcode) => Tells::Unjudged(opcode),
             Tells::NoForm(resp) => Tells::NoForm(resp),
         }
     }

@@ -225,14 +225,14 @@ impl<A: Allocator> Watch<A> {
     fn take_left_over(&mut self, event: &LineEvent, key: IdKey) -> Result<(), AllocError>
         ensures { OnOk result (watched self.new ≡ left_over_after (watched self.old) event.now key) }
     {
-        let Some(flits) = self.counts.flits.checked_add(1) else {
+        let Some(counts) = self.counts.with_left_over() else {
             return Err(AllocError);
         };
         name_id(&mut self.named, event, key)?;
         let place = place_of(&self.requesters, event.sides.requester);
         let count = self.requesters.len();
         self.last = last_behind(&self.last, place, count, event.number);
-        self.counts.flits = flits;
+        self.counts = counts;
         Ok(())
     }
 

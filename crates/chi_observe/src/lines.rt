@@ -6,7 +6,7 @@ ghost use Rattle.chi_observe.specs.declared.lines.LineStop.TheVariants as stops;
 ghost use Rattle.chi_observer.specs.WordedLines.{words_of};
 ghost use Rattle.chi_observe.specs.Judges.{before_of};
 ghost use Rattle.chi_observe.specs.Lacking.{unknown_in};
-ghost use Rattle.chi_observe.specs.Lines.{IsBegunTold, IsBetweenTold, IsEarlyTold, IsEndTold, IsFlitTold, IsHeldTold, IsHoldTold, IsLastTold, IsLineTold, IsShownTold, IsTold, early_of, heard, held_next, home_of, is_apart, is_aside, is_given, is_put_aside, is_showing, is_wanted_free, is_wanted_known, lacks_of, line_state, lines_in, marked_next, opened_line, presented, put_aside, shown_more, shown_words, shows_home, wanted_of, with_shown, word_in};
+ghost use Rattle.chi_observe.specs.Lines.{IsBegunTold, IsBetweenTold, IsEarlyTold, IsEndTold, IsFlitTold, IsHeldTold, IsHoldTold, IsLastTold, IsLineTold, IsShownTold, IsTold, asks_lacking, early_of, forgets_data, had_lacking, held_next, home_of, is_apart, is_aside, is_given, is_showing, is_wanted_free, is_wanted_known, lacks_of, line_state, lines_in, marked_next, opened_line, presented, put_aside, shown_more, shown_words, shows_home, told_as, wanted_of, with_shown, word_in};
 
 use crate::ids::Later;
 use crate::judges::{Before, Judge};
@@ -67,6 +67,26 @@ pub(crate) struct LineTold {
     pub fresh: bool,
     /// The line was judged so far, and isn't any more.
     pub aside: bool,
+    /// The line is judged behind it.
+    pub judged: bool,
+    /// What data of the line lacked before it.
+    pub lacked: Lacking,
+}
+
+impl LineTold {
+    /// Whether it set the line aside while data of it lacked words without which the line wasn't told of them.
+    pub(crate) fn forgets_data(&self) -> bool
+        ensures { result ≡ forgets_data self.now }
+    {
+        self.aside && matches!(self.lacked, Lacking::Data)
+    }
+
+    /// Whether data of the line lacked words.
+    pub(crate) fn had_lacking(&self) -> bool
+        ensures { result ≡ had_lacking self.now }
+    {
+        !matches!(self.lacked, Lacking::Nothing)
+    }
 }
 
 /// The lines that flits have touched, each under its number.
@@ -351,6 +371,14 @@ impl<A: Allocator> LineSeen<A> {
         }
     }
 
+    /// Whether a flit is a load of a word that no flit has shown yet, which may tell of a store: only the beat that lacks can
+    /// say what it may load.
+    fn asks_lacking(&self, flit: Flit, unknown: &[bool; 8]) -> bool
+        ensures { result ≡ asks_lacking (line_state self.now) flit unknown.now }
+    {
+        self.judge.observer().may_tell_store(flit) && lacks_some(&left_of(unknown, &lacks_of(flit)))
+    }
+
     /// Whether a flit goes on by itself, whatever words data lack.
     fn is_apart(&self, flit: &Option<Flit>) -> bool
         ensures { result ≡ is_apart (line_state self.now) flit.now }
@@ -360,32 +388,11 @@ impl<A: Allocator> LineSeen<A> {
             Some(flit) => match self.lacking {
                 Lacking::Nothing => true,
                 Lacking::Data => false,
-                Lacking::Words(_, _, _) => {
+                Lacking::Words(unknown, _, _) => {
                     (!shows_some(flit) || is_wanted_free(self.wanted(*flit)))
-                        && !self.judge.keeps_store(*flit)
+                        && (!self.judge.keeps_store(*flit) && !self.asks_lacking(*flit, &unknown))
                 }
             },
-        }
-    }
-
-    /// A flit between the beats of data as the line is told of it: a load that may tell of a store, of a word that no flit has
-    /// shown yet, tells of none.
-    fn heard(&self, flit: Flit) -> Flit
-        ensures { result ≡ heard (line_state self.now) flit }
-    {
-        match self.lacking {
-            Lacking::Nothing => flit,
-            Lacking::Data => flit,
-            Lacking::Words(unknown, _, _) => {
-                let lacks = lacks_of(flit);
-                if self.judge.observer().may_tell_store(flit)
-                    && lacks_some(&left_of(&unknown, &lacks))
-                {
-                    self.presented(flit, &lacks)
-                } else {
-                    flit
-                }
-            }
         }
     }
 
@@ -410,8 +417,7 @@ impl<A: Allocator> LineSeen<A> {
             return self.take_shown(before, home, *sent, &lacks, lacking, number);
         }
         if self.is_apart(flit) {
-            let heard = Some(self.heard(*sent));
-            return self.take_flit(before, home, &heard, number);
+            return self.take_flit(before, home, flit, number);
         }
         self.set_aside();
         Ok(())
@@ -475,22 +481,28 @@ impl<A: Allocator> LineSeen<A> {
         }
     }
 
-    /// The same; it answers whether the line was judged so far, and isn't any more.
+    /// Takes it too, and says what came of that; `fresh` is whether it is the line's first flit.
     fn tell(
         &mut self,
         before: &Before,
         home: NodeId,
         news: &LineNews,
         number: usize,
-    ) -> Result<bool, LineStop>
+        fresh: bool,
+    ) -> Result<LineTold, LineStop>
         ensures told { IsLineTold (before_of before.now) (line_state self.old) (line_state self.new)
             number home news.now result }
-        ensures aside { IfOk result
-            (λ aside. aside ≡ is_put_aside (line_state self.old) (line_state self.new)) }
+        ensures done { IfOk result
+            (λ done. done ≡ told_as fresh (line_state self.old) (line_state self.new)) }
     {
-        let was = self.aside;
+        let (was, lacked) = (self.aside, self.lacking);
         self.take(before, home, news, number)?;
-        Ok(self.aside && !was)
+        Ok(LineTold {
+            fresh,
+            aside: self.aside && !was,
+            judged: !self.aside,
+            lacked,
+        })
     }
 }
 
@@ -607,13 +619,7 @@ pub(crate) fn tell<A: Allocator + Copy>(
     ensures { IsTold (before_of before.now) (lines_in lines.old.entries) (lines_in lines.new.entries) number line home news.now result }
 {
     match lines.get_mut(&line.0) {
-        Some(seen) => match seen.tell(before, home, news, number) {
-            Ok(aside) => Ok(LineTold {
-                fresh: false,
-                aside,
-            }),
-            Err(stop) => Err(stop),
-        },
+        Some(seen) => seen.tell(before, home, news, number, false),
         None => tell_new(lines, spare, before, line, home, news, number),
     }
 }
@@ -633,12 +639,12 @@ fn tell_new<A: Allocator + Copy>(
 {
     let memory = spare.pop().unwrap_or(Vec::new(*lines.allocator()));
     let mut seen = LineSeen::new(memory, before, home, number)?;
-    let aside = match seen.tell(before, home, news, number) {
-        Ok(aside) => aside,
+    let told = match seen.tell(before, home, news, number, true) {
+        Ok(told) => told,
         Err(stop) => return Err(stop),
     };
     match lines.insert(line.0, seen) {
-        Ok(_) => Ok(LineTold { fresh: true, aside }),
+        Ok(_) => Ok(told),
         Err(_) => Err(LineStop::NoMemory),
     }
 }

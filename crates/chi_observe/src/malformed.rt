@@ -5,29 +5,38 @@ ghost use Rattle.chi_trace.specs.Malformed.{malformed_front};
 ghost use Rattle.chi_observe.specs.Reports.{BeginsWith};
 
 use crate::names::joined;
-use chi_trace::{Expected, MalformedFront, TraceFault, channel_word};
+use chi_trace::{
+    Expected, MalformedFront, Opcodes, TraceFault, TraceForm, channel_word, near_opcode,
+    opcode_word,
+};
 use std::alloc::{AllocError, Allocator};
 use std::fmt::Write;
 
-/// The opcodes of a channel.
-fn opcodes(channel: &[u8]) -> &'static str {
-    match channel {
-        b"CPU" => "Load or Store",
-        _ => "an opcode: letters and digits, a capital first",
+/// What is expected as the opcode of a line: the one that its word nearly is, or any.
+fn opcodes(form: TraceForm, line: &[u8]) -> &'static str {
+    let channel = channel_word(line);
+    if let b"CPU" = channel {
+        return "Load or Store";
+    }
+    match (form.opcodes, near_opcode(channel, opcode_word(line))) {
+        (Opcodes::Any, _) => "an opcode: letters and digits, a capital first",
+        (Opcodes::IssueB, Some(near)) => near,
+        (Opcodes::IssueB, None) => "an opcode of Issue B (--opcodes any takes others)",
     }
 }
 
 /// Puts what was expected of the line behind the text.
 fn write_expected<A: Allocator>(
     text: &mut String<A>,
+    form: TraceForm,
     line: &[u8],
     fault: TraceFault,
 ) -> Result<(), AllocError> {
-    let opcodes = opcodes(channel_word(line));
     let expected = Expected {
         fault,
         line,
-        opcodes,
+        opcodes: opcodes(form, line),
+        listing: form.listing,
     };
     write!(text, "{expected}")
 }
@@ -58,6 +67,7 @@ fn malformed_front<A: Allocator>(alloc: A, fault: TraceFault) -> Result<String<A
 /// What is told of a line that is none: it is given without its line end.
 pub(crate) fn malformed_text<A: Allocator + Copy>(
     alloc: A,
+    form: TraceForm,
     fault: TraceFault,
     line: &[u8],
 ) -> Result<String<A>, AllocError>
@@ -65,7 +75,7 @@ pub(crate) fn malformed_text<A: Allocator + Copy>(
 {
     let front = malformed_front(alloc, fault)?;
     let mut rest = String::new(alloc);
-    write_expected(&mut rest, line, fault)?;
+    write_expected(&mut rest, form, line, fault)?;
     write_mark(&mut rest, line, fault)?;
     joined(front, &rest)
 }

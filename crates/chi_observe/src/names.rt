@@ -81,7 +81,7 @@ fn is_again(flit: &AnyFlit) -> bool {
     match flit {
         AnyFlit::Profile(Flit::Request { spends, .. }) => spends.is_some(),
         AnyFlit::Request { fields, .. } => fields.spends.is_some(),
-        AnyFlit::UnknownRequest(fields) => fields.spends.is_some(),
+        AnyFlit::UnknownRequest(_, fields) => fields.spends.is_some(),
         _ => false,
     }
 }
@@ -191,8 +191,8 @@ fn asked_by(flit: &AnyFlit) -> Option<NodeId> {
         AnyFlit::Snoop { fields, .. } => Some(fields.target),
         AnyFlit::CompUC { transaction } => Some(transaction.target),
         AnyFlit::CompData { transaction, .. } => Some(transaction.target),
-        AnyFlit::UnknownSnoop(fields) => Some(fields.target),
-        AnyFlit::UnknownReply(transaction, _) => Some(transaction.target),
+        AnyFlit::UnknownSnoop(_, fields) => Some(fields.target),
+        AnyFlit::UnknownReply(_, transaction, _) => Some(transaction.target),
         _ => None,
     }
 }

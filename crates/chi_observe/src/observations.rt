@@ -7,7 +7,7 @@ ghost use Rattle.chi_observe.specs.Reports.{AtFailedWrite, IsObserved, IsReportF
 ghost use Rattle.chi_observe.specs.Watched.{nothing_watched, watched};
 
 use crate::progress::Progress;
-use crate::reports::{ObserveOutcome, ObserveReport};
+use crate::reports::{Demands, ObserveOutcome, ObserveReport};
 use crate::steps::WatchOptions;
 use crate::stream::{Notes, watch_input};
 use crate::watch::Watch;
@@ -20,18 +20,18 @@ fn report_by<A: Allocator + Copy, I: Input, P: Progress>(
     notes: &mut Notes<A>,
     alloc: A,
     input: &mut I,
-    complete: bool,
+    demands: Demands,
     progress: &mut P,
 ) -> Result<ObserveReport<A>, Fault>
     requires new { watched watch.old ≡ nothing_watched watch.old.options }
     requires reads { I.failures input.old + 1 < 2 ^ 64 }
     ensures told { IfOk result (λ report. IfSome (I.left input.old)
-        (λ file. IsObserved watch.old.options complete file report.outcome (string_bytes report.text))) }
+        (λ file. IsObserved watch.old.options demands file report.outcome (string_bytes report.text))) }
     ensures ok { OnOk result (I.failures input.new ≡ I.failures input.old) }
     ensures err { IfErr result (CountsFault (I.failures input.old) (I.failures input.new)) }
 {
     let stop = watch_input(alloc, input, watch, notes, progress)?;
-    match watch.report(alloc, complete, &stop, notes) {
+    match watch.report(alloc, demands, &stop, notes) {
         Ok(report) => Ok(report),
         Err(_) => Err(Fault::NoMemory),
     }
@@ -42,19 +42,19 @@ fn report_on_input<A: Allocator + Copy, I: Input, P: Progress>(
     alloc: A,
     input: &mut I,
     options: WatchOptions,
-    complete: bool,
+    demands: Demands,
     context: usize,
     progress: &mut P,
 ) -> Result<ObserveReport<A>, Fault>
     requires { I.failures input.old + 1 < 2 ^ 64 }
     ensures told { IfOk result (λ report. IfSome (I.left input.old)
-        (λ file. IsObserved options complete file report.outcome (string_bytes report.text))) }
+        (λ file. IsObserved options demands file report.outcome (string_bytes report.text))) }
     ensures ok { OnOk result (I.failures input.new ≡ I.failures input.old) }
     ensures err { IfErr result (CountsFault (I.failures input.old) (I.failures input.new)) }
 {
     let mut watch = Watch::new(alloc, options);
     let mut notes = Notes::new(alloc, context);
-    report_by(&mut watch, &mut notes, alloc, input, complete, progress)
+    report_by(&mut watch, &mut notes, alloc, input, demands, progress)
 }
 
 /// Judges the trace that the input has, which is read in pieces, and writes the report on it; of a malformed trace nothing
@@ -73,14 +73,14 @@ pub fn observe<A: Allocator + Copy, I: Input, O: Output, P: Progress>(
     input: &mut I,
     output: &mut O,
     options: WatchOptions,
-    complete: bool,
+    demands: Demands,
     context: usize,
     progress: &mut P,
 ) -> Result<ObserveReport<A>, Fault>
     requires reads { I.failures input.old + 1 < 2 ^ 64 }
     requires writes { O.failures output.old + 1 < 2 ^ 64 }
     ensures told { IfOk result (λ report. IfSome (I.left input.old)
-        (λ file. IsObserved options complete file report.outcome (string_bytes report.text))) }
+        (λ file. IsObserved options demands file report.outcome (string_bytes report.text))) }
     ensures written { IfOk result (λ report.
         IsReportWritten report.outcome (O.written output.old) (O.written output.new)
         (string_bytes report.text)) }
@@ -89,11 +89,11 @@ pub fn observe<A: Allocator + Copy, I: Input, O: Output, P: Progress>(
     ensures err { IfErr result (IsUnreported (I.failures input.old) (I.failures input.new)
         (O.failures output.old) (O.failures output.new)) }
     ensures front { AtFailedWrite result (IfSome (I.left input.old) (λ file.
-        IsReportFront options complete file (O.written output.old) (O.written output.new))) }
+        IsReportFront options demands file (O.written output.old) (O.written output.new))) }
     ensures kept { IfErr result
         (λ fault. fault ≢ Fault.Write → Keeps (O.written output.old) (O.written output.new)) }
 {
-    let report = report_on_input(alloc, input, options, complete, context, progress)?;
+    let report = report_on_input(alloc, input, options, demands, context, progress)?;
     write_report(output, report)
 }
 
@@ -117,6 +117,8 @@ fn write_report<A: Allocator, O: Output>(
         ObserveOutcome::Malformed(_) => Ok(report),
         ObserveOutcome::Accepted(_)
         | ObserveOutcome::Incomplete(_)
+        | ObserveOutcome::Partly(_)
+        | ObserveOutcome::Unjudged(_)
         | ObserveOutcome::Nothing
         | ObserveOutcome::Faulty(_) => match output.write_all(report.text.as_bytes()) {
             Ok(()) => Ok(report),

@@ -1,8 +1,9 @@
 //! The report on a trace.
 
-ghost use Rattle.std.specs.Prelude.{◌≡◌, IfOk, codes, string_bytes};
+ghost use Rattle.std.specs.Prelude.{◌≡◌, ◌-◌, IfOk, string_bytes};
 ghost use Rattle.chi_observe.specs.Pending.{is_open};
-ghost use Rattle.chi_observe.specs.Reports.{BeginsWith, IsOutcomeOf, IsReportText, accepted_line, ended_outcome, is_nothing_seen, numbered};
+ghost use Rattle.chi_observe.specs.Reports.{BeginsWith, IsOutcomeOf, IsReportText, ended_outcome, is_nothing_seen, nothing_text, numbered, unjudged_outcome};
+ghost use Rattle.chi_observe.specs.Told.{IsAcceptedText, IsUnjudgedText, is_nothing_judged, is_unjudged};
 ghost use Rattle.chi_observe.specs.Watched.{watched};
 
 use crate::malformed::malformed_text;
@@ -10,20 +11,34 @@ use crate::names::{LineName, NodeName, SeenName, joined, requester_of};
 use crate::seen::event_of;
 use crate::stream::{Notes, TextStop};
 use crate::texts::AsideText;
-use crate::watch::{Aside, Counts, Watch, WatchFault};
-use chi_ids::CacheLine;
+use crate::told::{ranked, write_cut, write_judged, write_unjudged};
+use crate::watch::{Counts, Watch, WatchFault};
 use chi_trace::{AnySeen, TraceFault};
 use std::alloc::{AllocError, Allocator};
 use std::fmt::Write;
+
+/// What a trace has to be, beside legal.
+/// Source: `docs/OBSERVER.md`, "What is printed".
+#[derive(Clone, Copy, Debug, PartialEq, Eq)]
+pub struct Demands {
+    /// Nothing is open at its end.
+    pub complete: bool,
+    /// Each flit, load and store of it is judged.
+    pub judged: bool,
+}
 
 /// What came of a trace.
 /// Source: `docs/OBSERVER.md`, "What is printed".
 #[derive(Clone, Copy, Debug, PartialEq, Eq)]
 pub enum ObserveOutcome {
-    /// Every flit is taken: so many.
+    /// Every flit is taken, and each was judged, or needn't be.
     Accepted(Counts),
-    /// Every flit is taken, and something is open at the end of a trace that is to be complete.
+    /// So too, and something is open at the end of a trace that is to be complete.
     Incomplete(Counts),
+    /// No flit is a fault, and some weren't judged that were to be.
+    Partly(Counts),
+    /// No flit, load or store was judged, and all were to be.
+    Unjudged(Counts),
     /// The trace has no flit, load or store.
     Nothing,
     /// The flit of the line with this number is the first that isn't taken.
@@ -48,36 +63,70 @@ fn is_nothing_seen(counts: Counts) -> bool
     counts.flits == 0 && counts.accesses == 0
 }
 
+impl Counts {
+    /// Flits of which an observer was told.
+    pub(crate) fn judged(self) -> u64
+        ensures { result ≡ self.flits - self.unjudged }
+    {
+        self.flits.saturating_sub(self.unjudged)
+    }
+
+    /// Loads and stores of which one was.
+    pub(crate) fn judged_accesses(self) -> u64
+        ensures { result ≡ self.accesses - self.unseen }
+    {
+        self.accesses.saturating_sub(self.unseen)
+    }
+
+    /// Whether something isn't judged.
+    pub(crate) fn is_unjudged(self) -> bool
+        ensures { result ≡ is_unjudged self }
+    {
+        self.unjudged != 0 || (self.unseen != 0 || self.cut.is_some())
+    }
+
+    /// Whether nothing is.
+    fn is_nothing_judged(self) -> bool
+        ensures { result ≡ is_nothing_judged self }
+    {
+        self.judged() == 0 && self.judged_accesses() == 0
+    }
+}
+
+/// What comes of a trace whose flits are all taken, and of which something was seen that isn't judged.
+fn unjudged_outcome(counts: Counts) -> ObserveOutcome
+    ensures { result ≡ unjudged_outcome counts }
+{
+    if counts.is_nothing_judged() {
+        ObserveOutcome::Unjudged(counts)
+    } else {
+        ObserveOutcome::Partly(counts)
+    }
+}
+
 /// What comes of a trace whose flits are all taken.
-fn ended_outcome(complete: bool, is_open: bool, counts: Counts) -> ObserveOutcome
-    ensures { result ≡ ended_outcome complete is_open counts }
+fn ended_outcome(demands: Demands, is_open: bool, counts: Counts) -> ObserveOutcome
+    ensures { result ≡ ended_outcome demands is_open counts }
 {
     if is_nothing_seen(counts) {
         return ObserveOutcome::Nothing;
     }
-    if complete && is_open {
+    if demands.judged && counts.is_unjudged() {
+        return unjudged_outcome(counts);
+    }
+    if demands.complete && is_open {
         ObserveOutcome::Incomplete(counts)
     } else {
         ObserveOutcome::Accepted(counts)
     }
 }
 
-/// The line on a trace whose flits are all taken.
-fn accepted_line<A: Allocator>(alloc: A, counts: Counts) -> Result<String<A>, AllocError>
-    ensures { IfOk result (λ text. string_bytes text ≡ accepted_line counts) }
-{
-    let (flits, lines) = (counts.flits, counts.lines);
-    let mut text = String::new(alloc);
-    writeln!(text, "accepted {flits} flits on {lines} lines")?;
-    Ok(text)
-}
-
-/// The line on a trace without a flit.
-fn nothing_line<A: Allocator>(alloc: A) -> Result<String<A>, AllocError>
-    ensures { IfOk result
-        (λ text. string_bytes text ≡ codes "no flit, load or store is in the trace\n") }
+/// What is told of a trace without a flit, of which a last line may be cut.
+fn nothing_text<A: Allocator>(alloc: A, counts: Counts) -> Result<String<A>, AllocError>
+    ensures { IfOk result (λ text. string_bytes text ≡ nothing_text counts) }
 {
     let mut text = String::new(alloc);
+    write_cut(&mut text, counts.cut)?;
     writeln!(text, "no flit, load or store is in the trace")?;
     Ok(text)
 }
@@ -93,15 +142,40 @@ fn numbered<A: Allocator>(alloc: A, number: usize) -> Result<String<A>, AllocErr
 
 impl<A: Allocator + Copy> Watch<A> {
     /// What is told of a trace whose flits are all taken.
-    fn accepted_text(&self, alloc: A, counts: Counts) -> Result<String<A>, AllocError>
-        ensures { IfOk result (λ text. BeginsWith (accepted_line counts) (string_bytes text)) }
+    fn accepted_text(&self, alloc: A) -> Result<String<A>, AllocError>
+        ensures { IfOk result (λ text. IsAcceptedText (watched self.now) (string_bytes text)) }
     {
-        let front = accepted_line(alloc, counts)?;
+        let rows = ranked(alloc, &self.causes)?;
+        let mut front = String::new(alloc);
+        let (home, listing) = (self.options.is_at_home(), self.options.form.listing);
+        write_judged(&mut front, home, listing, self.counts, &rows)?;
         let mut rest = String::new(alloc);
+        self.write_late(&mut rest)?;
         self.write_start(&mut rest)?;
-        self.write_counts(&mut rest, counts)?;
         self.write_open(&mut rest)?;
         joined(front, &rest)
+    }
+
+    /// What is told of flits, loads and stores that aren't judged; empty where each is.
+    pub(crate) fn unjudged_text(&self, alloc: A) -> Result<String<A>, AllocError>
+        ensures { IfOk result (λ text. IsUnjudgedText (watched self.now) (string_bytes text)) }
+    {
+        let rows = ranked(alloc, &self.causes)?;
+        let mut text = String::new(alloc);
+        write_unjudged(&mut text, self.options.is_at_home(), self.counts, &rows)?;
+        Ok(text)
+    }
+
+    /// Puts behind the text why the first line was set aside by a late flit.
+    fn write_late(&self, text: &mut String<A>) -> Result<(), AllocError> {
+        for row in &self.causes {
+            let line = row.first.line;
+            if let Some(why) = self.lines.get(&line.0).and_then(|seen| seen.why) {
+                let (line, why) = (LineName(line), AsideText(why));
+                writeln!(text, "set aside at {line}: {why}")?;
+            }
+        }
+        Ok(())
     }
 
     /// Puts on how many lines a copy isn't known behind the text, of a trace that is cut out of a longer one.
@@ -119,50 +193,6 @@ impl<A: Allocator + Copy> Watch<A> {
             text,
             "begun in the middle: on {count} lines a copy isn't known"
         )
-    }
-
-    /// Puts lines for loads and stores, and for lines that were set aside, behind the text.
-    fn write_counts(&self, text: &mut String<A>, counts: Counts) -> Result<(), AllocError> {
-        let accesses = counts.accesses;
-        if accesses > 0 && self.options.is_at_home() {
-            writeln!(
-                text,
-                "not judged: {accesses} loads and stores, which a home doesn't see"
-            )?;
-        } else if accesses > 0 {
-            writeln!(text, "accepted {accesses} loads and stores")?;
-        }
-        match counts.first_aside {
-            Some(first) => self.write_aside(text, counts.aside, first),
-            None => Ok(()),
-        }
-    }
-
-    /// Puts a line for so many lines that were set aside behind the text, of which this is the first.
-    fn write_aside(
-        &self,
-        text: &mut String<A>,
-        aside: u64,
-        first: Aside,
-    ) -> Result<(), AllocError> {
-        let (line, number) = (LineName(first.line), first.number);
-        write!(
-            text,
-            "set aside: {aside} lines, the first at {line} by line {number}"
-        )?;
-        if let Some(why) = self.why_aside(first.line) {
-            let why = AsideText(why);
-            write!(text, ": {why}")?;
-        }
-        writeln!(text, "")
-    }
-
-    /// Why a line was set aside, where what is on its way left it open.
-    fn why_aside(&self, line: CacheLine) -> Option<chi_observer::Aside> {
-        match self.lines.get(&line.0) {
-            Some(seen) => seen.why,
-            None => None,
-        }
     }
 
     /// What is told of a flit that isn't taken.
@@ -206,12 +236,14 @@ impl<A: Allocator + Copy> Watch<A> {
 
     /// What is told of a trace whose flits are all taken, and of which this came.
     fn outcome_text(&self, alloc: A, outcome: ObserveOutcome) -> Result<String<A>, AllocError>
-        ensures { IfOk result (λ text. IsReportText outcome (string_bytes text)) }
+        ensures { IfOk result (λ text. IsReportText (watched self.now) outcome (string_bytes text)) }
     {
         match outcome {
-            ObserveOutcome::Accepted(counts) => self.accepted_text(alloc, counts),
-            ObserveOutcome::Incomplete(counts) => self.accepted_text(alloc, counts),
-            ObserveOutcome::Nothing => nothing_line(alloc),
+            ObserveOutcome::Accepted(_)
+            | ObserveOutcome::Incomplete(_)
+            | ObserveOutcome::Partly(_)
+            | ObserveOutcome::Unjudged(_) => self.accepted_text(alloc),
+            ObserveOutcome::Nothing => nothing_text(alloc, self.counts),
             ObserveOutcome::Faulty(_) | ObserveOutcome::Malformed(_) => Err(AllocError),
         }
     }
@@ -220,23 +252,23 @@ impl<A: Allocator + Copy> Watch<A> {
     pub(crate) fn report(
         &self,
         alloc: A,
-        complete: bool,
+        demands: Demands,
         stop: &Option<TextStop>,
         notes: &Notes<A>,
     ) -> Result<ObserveReport<A>, AllocError>
         ensures outcome { IfOk result
-            (λ report. IsOutcomeOf complete (watched self.now) stop.now report.outcome) }
+            (λ report. IsOutcomeOf demands (watched self.now) stop.now report.outcome) }
         ensures text { IfOk result
-            (λ report. IsReportText report.outcome (string_bytes report.text)) }
+            (λ report. IsReportText (watched self.now) report.outcome (string_bytes report.text)) }
     {
         match stop {
             None => {
-                let outcome = ended_outcome(complete, self.is_open(), self.counts);
+                let outcome = ended_outcome(demands, self.is_open(), self.counts);
                 let text = self.outcome_text(alloc, outcome)?;
                 Ok(ObserveReport { outcome, text })
             }
             Some(TextStop::Malformed(fault)) => {
-                let text = malformed_text(alloc, *fault, &notes.wrong)?;
+                let text = malformed_text(alloc, self.options.form, *fault, &notes.wrong)?;
                 let outcome = ObserveOutcome::Malformed(*fault);
                 Ok(ObserveReport { outcome, text })
             }

@@ -474,31 +474,31 @@ pub fn event_of(seen: &AnySeen) -> Event
             IdStep::WriteData(named_buffer(transaction), beat.there),
             whole_written_told(*resp, beat),
         ),
-        AnyFlit::UnknownRequest(fields) => up(
+        AnyFlit::UnknownRequest(opcode, fields) => up(
             seen,
             fields.target,
             None,
             IdStep::UnknownRequest(fields.txn, line_of(fields.address), fields.spends),
-            Tells::Unjudged,
+            Tells::Unjudged(*opcode),
         ),
-        AnyFlit::UnknownSnoop(fields) => down(
+        AnyFlit::UnknownSnoop(opcode, fields) => down(
             seen,
             fields.target,
             None,
             IdStep::UnknownSnoop(fields.txn, line_of(fields.address)),
-            Tells::Unjudged,
+            Tells::Unjudged(*opcode),
         ),
-        AnyFlit::UnknownAnswer(transaction) => up_in(
+        AnyFlit::UnknownAnswer(opcode, transaction) => up_in(
             seen,
             transaction,
             IdStep::UnknownAnswer(transaction.txn),
-            Tells::Unjudged,
+            Tells::Unjudged(*opcode),
         ),
-        AnyFlit::UnknownReply(transaction, dbid) => down_in(
+        AnyFlit::UnknownReply(opcode, transaction, dbid) => down_in(
             seen,
             transaction,
             IdStep::UnknownReply(transaction.txn, *dbid),
-            Tells::Unjudged,
+            Tells::Unjudged(*opcode),
         ),
     }
 }

@@ -13,7 +13,7 @@ use crate::reasons::IdReason;
 use crate::tables::{Change, Part, Tables, freed_key, plain_change, right_type};
 use chi_ids::{CacheLine, IdKey, Sides};
 use chi_observer::{Kind, Snoop, Stores};
-use chi_trace::{DbId, PcrdType, TxnId};
+use chi_trace::{DbId, PcrdType, TraceForm, TxnId};
 use std::alloc::Allocator;
 
 /// What a trace is taken for.
@@ -27,6 +27,8 @@ pub struct WatchOptions {
     pub stores: Stores,
     /// How it was taken.
     pub log: Log,
+    /// Which opcodes and which data it lists.
+    pub form: TraceForm,
 }
 
 impl WatchOptions {

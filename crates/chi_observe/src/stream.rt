@@ -1,8 +1,8 @@
 //! A trace that is read in pieces of any size.
 
-ghost use Rattle.std.specs.Prelude.{◌≡◌, ◌+◌, ◌^◌, ◌<◌, IfErr, OnOk, []};
+ghost use Rattle.std.specs.Prelude.{◌≡◌, ◌+◌, ◌^◌, ◌<◌, IfErr, IfSome, OnOk, []};
 ghost use Rattle.chi_script.specs.Devices.{CountsFault};
-ghost use Rattle.chi_observe.specs.Streams.{AreLinesTaken, IsInputWatched, IsPieceTaken, IsSeenTaken, IsTextTaken, end_of};
+ghost use Rattle.chi_observe.specs.Streams.{AreLinesTaken, IsInputWatched, IsEndTaken, IsOverlong, IsPieceTaken, IsSeenTaken, IsTextTaken};
 ghost use Rattle.chi_observe.specs.Watched.{watched};
 
 use crate::events::Event;
@@ -12,7 +12,7 @@ use crate::seen::event_of;
 use crate::watch::{Watch, WatchFault, WatchStop};
 use chi_ids::CacheLine;
 use chi_script::{Failed, Fault, Input, first_line};
-use chi_trace::{AnySeen, TraceFault, any_flit_in};
+use chi_trace::{AnySeen, MOST_LINE_BYTES, TraceFault, TraceForm, any_flit_in};
 use std::alloc::{AllocError, Allocator};
 
 /// Why a trace isn't accepted.
@@ -108,7 +108,7 @@ fn take_text<A: Allocator + Copy>(
 ) -> Result<(), TextStop>
     ensures { IsTextTaken (watched watch.old) (watched watch.new) number line.now result }
 {
-    match &any_flit_in(line, number) {
+    match &any_flit_in(watch.options.form, line, number) {
         Ok(Some(seen)) => take_seen(watch, notes, seen),
         Ok(None) => Ok(()),
         Err(fault) => {
@@ -159,6 +159,24 @@ fn take_lines<'a, A: Allocator + Copy>(
     Ok(Left { rest, number })
 }
 
+/// Takes such lines, where what is left isn't too long for a line.
+fn take_short_lines<'a, A: Allocator + Copy>(
+    watch: &mut Watch<A>,
+    notes: &mut Notes<A>,
+    bytes: &'a [u8],
+    number: usize,
+) -> Result<Left<'a>, TextStop>
+    ensures { AreLinesTaken (watched watch.old) (watched watch.new) number bytes.entry.now result }
+{
+    match take_lines(watch, notes, bytes, number) {
+        Ok(left) => match overlong(watch.options.form, left.rest, left.number) {
+            Some(stop) => Err(stop),
+            None => Ok(left),
+        },
+        Err(stop) => Err(stop),
+    }
+}
+
 impl<A: Allocator + Copy> Stream<A> {
     /// A trace of which nothing was read.
     fn new(alloc: A) -> Stream<A>
@@ -188,7 +206,7 @@ fn take_piece<A: Allocator + Copy>(
         number,
     } = stream;
     held.extend_from_slice(piece)?;
-    let left = match take_lines(watch, notes, &held, number) {
+    let left = match take_short_lines(watch, notes, &held, number) {
         Ok(left) => left,
         Err(stop) => return Err(stop),
     };
@@ -202,14 +220,33 @@ fn take_piece<A: Allocator + Copy>(
     })
 }
 
-/// What comes of a trace that has ended: nothing stands behind the last line end.
-fn ended<A: Allocator>(stream: &Stream<A>) -> Option<TextStop>
-    ensures { result ≡ end_of stream.now.held.items stream.now.number }
+/// What comes of a trace that has ended: a line that no line end follows isn't judged, and its number is kept.
+fn end<A: Allocator>(watch: &mut Watch<A>, held: &[u8], number: usize) -> Option<TextStop>
+    ensures { IsEndTaken (watched watch.old) (watched watch.new) held.now number result }
 {
-    if stream.held.is_empty() {
-        None
-    } else {
-        Some(TextStop::Malformed(TraceFault::MissingNewline(stream.number)))
+    if held.is_empty() {
+        return None;
+    }
+    match any_flit_in(watch.options.form, held, number) {
+        Err(TraceFault::Gzip) => Some(TextStop::Malformed(TraceFault::Gzip)),
+        Err(TraceFault::LongLine(line)) => Some(TextStop::Malformed(TraceFault::LongLine(line))),
+        _ => {
+            watch.counts.cut = Some(number);
+            None
+        }
+    }
+}
+
+/// What stops a trace within a line of which so much was read: that it is too long.
+fn overlong(form: TraceForm, line: &[u8], number: usize) -> Option<TextStop>
+    ensures { IfSome result (IsOverlong form number line.now) }
+{
+    if line.len() <= MOST_LINE_BYTES {
+        return None;
+    }
+    match any_flit_in(form, line, number) {
+        Ok(_) => None,
+        Err(fault) => Some(TextStop::Malformed(fault)),
     }
 }
 
@@ -238,7 +275,7 @@ pub(crate) fn watch_input<A: Allocator + Copy, I: Input, P: Progress>(
     let mut bytes: u64 = 0;
     'pieces: for _ in 0..u64::MAX {
         let count = match input.read(&mut buffer) {
-            Ok(0) => return Ok(ended(&stream)),
+            Ok(0) => return Ok(end(watch, &stream.held, stream.number)),
             Ok(count) => count,
             Err(Failed) => return Err(Fault::Read),
         };

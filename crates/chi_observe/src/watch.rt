@@ -2,14 +2,16 @@
 
 ghost use Rattle.std.specs.Prelude.{◌≡◌, IfSome, OnOk, option_map};
 ghost use Rattle.chi_observe.specs.declared.watch.WatchStop.TheVariants.{NoMemory};
+ghost use Rattle.chi_observe.specs.Causes.{cause_of};
 ghost use Rattle.chi_observe.specs.Ids.{opened_at, with_id, without};
 ghost use Rattle.chi_observe.specs.Credits.{booked, booked_all};
 ghost use Rattle.chi_observe.specs.Lines.{lines_in};
 ghost use Rattle.chi_observe.specs.Grants.{granted, returned};
 ghost use Rattle.chi_observe.specs.Steps.{ids_after};
 ghost use Rattle.chi_observe.specs.Tables.{table_of};
-ghost use Rattle.chi_observe.specs.Watched.{IsCreditWatched, IsFlitWatched, IsWatched, agent_in, allowed, changed, booking_after, counts_access, counts_after, counts_aside, counts_first, early_in, mark_if, nothing_watched, ready, settled, table_in, watched, with_early};
+ghost use Rattle.chi_observe.specs.Watched.{IsCreditWatched, IsFlitWatched, IsWatched, agent_in, allowed, changed, booking_after, counts_access, counts_after, counts_aside, counts_first, counts_left_over, counts_told, counts_unjudged, early_in, mark_if, one_if, nothing_watched, ready, settled, table_in, watched, with_early};
 
+use crate::causes::{Cause, CauseRow, add_cause, cause_of};
 use crate::credits::{AccountTable, Booking, account_numbers};
 use crate::events::{Event, LineEvent, Tells, flit_by, news_of};
 use crate::ids::{IdTable, Later, OpenId};
@@ -33,22 +35,32 @@ pub struct Aside {
     /// The number of the trace's line, counted from 1.
     pub number: usize,
     pub line: CacheLine,
+    pub cause: Cause,
 }
 
-/// How much a watch has seen.
-/// Source: `docs/OBSERVER.md`, "A trace of many lines".
+/// How much a watch has seen, and how much of it isn't judged.
+/// Source: `docs/OBSERVER.md`, "What isn't judged".
 #[derive(Clone, Copy, Debug, PartialEq, Eq)]
 pub struct Counts {
     /// Flits; data that come in beats are one.
     pub flits: u64,
+    /// Flits that no observer was told of: of a line that is set aside, from the one on that sets it aside, and those that name
+    /// an id from before the trace.
+    pub unjudged: u64,
+    /// Flits that name an id from before the trace.
+    pub left_over: u64,
     /// Loads and stores.
     pub accesses: u64,
+    /// Loads and stores that no observer was told of.
+    pub unseen: u64,
     /// Lines that flits have touched.
     pub lines: u64,
     /// Lines that were set aside.
     pub aside: u64,
     /// The first of them.
     pub first_aside: Option<Aside>,
+    /// The number of the trace's last line, where no line end follows it.
+    pub cut: Option<usize>,
 }
 
 /// What the flits so far have told.
@@ -64,6 +76,8 @@ pub struct Watch<A: Allocator> {
     /// Memory that was taken for lines to come.
     pub(crate) spare: SpareMarks<A>,
     pub(crate) counts: Counts,
+    /// Why lines were set aside, in the order of the first of each cause.
+    pub(crate) causes: Vec<CauseRow, A>,
     /// Of each agent the number of the trace's line that is its last flit which names an id from before; 0 where there is
     /// none.
     pub(crate) last: [usize; 32],
@@ -103,10 +117,14 @@ impl Counts {
     /// Nothing was seen.
     pub(crate) const NOTHING: Counts = Counts {
         flits: 0,
+        unjudged: 0,
+        left_over: 0,
         accesses: 0,
+        unseen: 0,
         lines: 0,
         aside: 0,
         first_aside: None,
+        cut: None,
     };
 
     /// The counts behind a flit, which is the first of its line or isn't; `None` where a number would pass 2^64.
@@ -143,33 +161,96 @@ impl Counts {
         }
     }
 
-    /// The counts behind a load or a store, which sets a line aside or doesn't; `None` where a number would pass 2^64.
-    pub(crate) fn with_access(self, aside: Option<Aside>) -> Option<Counts>
-        ensures { IfSome result (λ counts. counts ≡ counts_access aside self) }
+    /// The counts behind so many flits more that aren't judged; `None` where the number would pass 2^64.
+    fn with_unjudged(self, flits: u64) -> Option<Counts>
+        ensures { IfSome result (λ counts. counts ≡ counts_unjudged flits self) }
     {
-        let accesses = self.accesses.checked_add(1)?;
-        let counts = Counts { accesses, ..self };
-        counts.with_aside(aside)
+        let unjudged = self.unjudged.checked_add(flits)?;
+        Some(Counts { unjudged, ..self })
     }
 
-    /// The counts behind a flit, or the last beat of one.
-    fn with_flit(self, part: Part, aside: Option<Aside>, fresh: bool) -> Option<Counts>
-        ensures { IfSome result (λ counts. counts ≡ counts_after part aside fresh self) }
+    /// The counts behind a load or a store, of which an observer was told or wasn't; `None` where a number would pass 2^64.
+    pub(crate) fn with_access(self, judged: bool) -> Option<Counts>
+        ensures { IfSome result (λ counts. counts ≡ counts_access judged self) }
+    {
+        let accesses = self.accesses.checked_add(1)?;
+        let unseen = self.unseen.checked_add(one_if(!judged))?;
+        Some(Counts {
+            accesses,
+            unseen,
+            ..self
+        })
+    }
+
+    /// The counts behind a load or a store of which its line was told so, and which set the line aside or didn't; `None` where
+    /// a number would pass 2^64.
+    pub(crate) fn with_told_access(self, told: &LineTold, aside: Option<Aside>) -> Option<Counts>
+        ensures { IfSome result (λ counts. counts ≡ counts_told told.now aside self) }
+    {
+        let counts = self.with_access(told.judged)?;
+        counts
+            .with_unjudged(one_if(told.forgets_data()))?
+            .with_aside(aside)
+    }
+
+    /// The counts behind a flit that names an id from before the trace; `None` where a number would pass 2^64.
+    pub(crate) fn with_left_over(self) -> Option<Counts>
+        ensures { IfSome result (λ counts. counts ≡ counts_left_over self) }
+    {
+        let flits = self.flits.checked_add(1)?;
+        let unjudged = self.unjudged.checked_add(1)?;
+        let left_over = self.left_over.checked_add(1)?;
+        Some(Counts {
+            flits,
+            unjudged,
+            left_over,
+            ..self
+        })
+    }
+
+    /// The counts behind a flit, or the last beat of one, of which its line was told so.
+    fn with_flit(self, part: Part, told: &LineTold, aside: Option<Aside>) -> Option<Counts>
+        ensures { IfSome result (λ counts. counts ≡ counts_after part told.now aside self) }
     {
         let counts = match part {
-            Part::Whole | Part::First(_) | Part::Known(_) => self.with_first(fresh)?,
-            Part::Further | Part::Held(_) | Part::Last(_) => self,
+            Part::Whole | Part::First(_) | Part::Known(_) => {
+                let counts = self.with_first(told.fresh)?;
+                counts
+                    .with_unjudged(one_if(!told.judged))?
+                    .with_unjudged(one_if(told.forgets_data()))?
+            }
+            Part::Last(_) => self.with_unjudged(one_if(told.aside))?,
+            Part::Further | Part::Held(_) => self,
         };
         counts.with_aside(aside)
     }
 }
 
-/// The line, if it was set aside.
-pub(crate) fn mark_of(told: LineTold, line: CacheLine, number: usize) -> Option<Aside>
-    ensures { result ≡ mark_if told.aside line number }
+/// 1 where it is so, else 0.
+fn one_if(it: bool) -> u64
+    ensures { result ≡ one_if it }
+{
+    if it { 1 } else { 0 }
+}
+
+/// The line and why, if it was set aside by a flit that tells this, of this agent.
+pub(crate) fn mark_of(
+    options: WatchOptions,
+    tells: &Tells,
+    agent: Option<Agent>,
+    told: &LineTold,
+    line: CacheLine,
+    number: usize,
+) -> Option<Aside>
+    ensures { result ≡ mark_if (cause_of options tells.now agent told.now) told.now line number }
 {
     if told.aside {
-        Some(Aside { number, line })
+        let cause = cause_of(options, tells, agent, told);
+        Some(Aside {
+            number,
+            line,
+            cause,
+        })
     } else {
         None
     }
@@ -276,6 +357,7 @@ impl<A: Allocator + Copy> Watch<A> {
             lines: IndexMap::new(alloc),
             spare: Vec::new(alloc),
             counts: Counts::NOTHING,
+            causes: Vec::new(alloc),
             last: [0; 32],
             named: IndexMap::new(alloc),
         }
@@ -323,7 +405,7 @@ impl<A: Allocator> Watch<A> {
         ensures { result ≡ agent_in (watched self.now) event.now }
     {
         match event.tells {
-            Tells::Unjudged => None,
+            Tells::Unjudged(_) => None,
             Tells::Sent(_, _) | Tells::Given(_, _) | Tells::NoForm(_) => {
                 agent_of(&self.requesters, &self.homes, event.sides)
             }
@@ -393,21 +475,29 @@ impl<A: Allocator> Watch<A> {
         }
     }
 
-    /// What a flit of this agent that does this leaves, but of its line.
+    /// What a flit of this agent that does this leaves, but of its line, which was told so.
     fn settle(
         &mut self,
         event: &LineEvent,
         change: &Change,
         agent: Option<Agent>,
-        mark: Option<Aside>,
-        fresh: bool,
+        told: &LineTold,
     ) -> Result<(), AllocError>
         ensures { OnOk result
-            (watched self.new ≡ settled (watched self.old) event.now change.now agent mark fresh) }
+            (watched self.new ≡ settled (watched self.old) event.now change.now agent told.now) }
     {
-        let Some(counts) = self.counts.with_flit(change.part, mark, fresh) else {
+        let mark = mark_of(
+            self.options,
+            &event.tells,
+            agent,
+            told,
+            change.line,
+            event.number,
+        );
+        let Some(counts) = self.counts.with_flit(change.part, told, mark) else {
             return Err(AllocError);
         };
+        add_cause(&mut self.causes, mark)?;
         add_requester(&mut self.requesters, agent, event.sides.requester)?;
         add_home(&mut self.homes, agent, event.sides.home)?;
         change_ids(&mut self.ids, change, event.number)?;
@@ -447,10 +537,7 @@ impl<A: Allocator + Copy> Watch<A> {
             &news,
             event.number,
         ) {
-            Ok(told) => {
-                let mark = mark_of(told, change.line, event.number);
-                Ok(self.settle(event, change, agent, mark, told.fresh)?)
-            }
+            Ok(told) => Ok(self.settle(event, change, agent, &told)?),
             Err(LineStop::Refused(reason)) => Err(WatchStop::Fault(WatchFault::Line(reason))),
             Err(LineStop::NoMemory) => Err(WatchStop::NoMemory),
         }

@@ -2,7 +2,7 @@
 
 use chi_observe::{BenchWatch, CreditTypes, Judged, Log, Room, WatchOptions};
 use chi_observer::Stores;
-use chi_trace::any_flit_in;
+use chi_trace::{TraceForm, any_flit_in};
 use std::alloc::Global;
 
 /// Flits, and what a watch with room for one requester, one line and two ids answers.
@@ -15,7 +15,7 @@ const FLITS: [(&[u8], Judged); 8] = [
         Judged::Taken,
     ),
     (b"RSP 8 40 11 CompAck - - - - - -", Judged::Taken),
-    (b"REQ 8 40 1 Other 1040 - - 1 - -", Judged::SetAside),
+    (b"REQ 8 40 1 ReadNoSnp 1040 - - 1 - -", Judged::SetAside),
     (b"RSP 8 40 12 CompAck - - - - - -", Judged::Untaken),
     (b"REQ 8 40 3 ReadShared 1040 - - 1 - -", Judged::Untaken),
 ];
@@ -23,11 +23,16 @@ const FLITS: [(&[u8], Judged); 8] = [
 /// The line of the first fault.
 const TOLD: &[u8] = b"line 7: CompAck of node 8: no completion with DBID 12 of it is open";
 
+/// What isn't judged.
+const UNJUDGED: &[u8] =
+    b"not judged: 1 of 4 flits, on 1 of 1 cache lines\nReadNoSnp: 1 cache lines, the first 1040 by trace line 6\n";
+
 const OPTIONS: WatchOptions = WatchOptions {
     types: CreditTypes::Any,
     early_grants: false,
     stores: Stores::Hidden,
     log: Log::Whole,
+    form: TraceForm::USUAL,
 };
 
 const ROOM: Room = Room {
@@ -45,7 +50,7 @@ fn is_judged_so(
     number: usize,
     wanted: Judged,
 ) -> bool {
-    match any_flit_in(line, number) {
+    match any_flit_in(TraceForm::USUAL, line, number) {
         Ok(Some(seen)) => watch.see(&seen) == wanted,
         _ => false,
     }
@@ -61,14 +66,16 @@ fn are_judged_so(watch: &mut BenchWatch<Global>, flits: &[(&[u8], Judged)]) -> b
     found
 }
 
-/// Whether a watch with the room answers the flits so, and tells the first fault.
+/// Whether a watch with the room answers the flits so, and tells the first fault and what isn't judged.
 fn is_told_so(alloc: Global) -> bool {
     match BenchWatch::new(alloc, OPTIONS, ROOM) {
         Ok(mut watch) => {
             let so = are_judged_so(&mut watch, &FLITS);
-            match watch.fault_text(alloc) {
-                Ok(text) => so && text.as_bytes() == TOLD,
-                Err(_) => false,
+            match (watch.fault_text(alloc), watch.unjudged_text(alloc)) {
+                (Ok(fault), Ok(unjudged)) => {
+                    so && (fault.as_bytes() == TOLD && unjudged.as_bytes() == UNJUDGED)
+                }
+                _ => false,
             }
         }
         Err(_) => false,

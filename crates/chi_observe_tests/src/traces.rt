@@ -1,8 +1,9 @@
 //! Short traces, and what is told of them.
 
-use chi_observe::{CreditTypes, Log, Nobody, WatchOptions, observe};
+use chi_observe::{CreditTypes, Demands, Log, Nobody, WatchOptions, observe};
 use chi_observer::Stores;
 use chi_script::{Fault, MemoryInput, MemoryOutput};
+use chi_trace::TraceForm;
 
 /// A read, and one flit of another that the home answers while the first holds the line alone.
 const TRACE: &[u8] = b"REQ 8 40 1 ReadShared 1040 - - 1 - -\n\
@@ -20,6 +21,12 @@ const OPTIONS: WatchOptions = WatchOptions {
     early_grants: false,
     stores: Stores::Hidden,
     log: Log::Whole,
+    form: TraceForm::USUAL,
+};
+
+const DEMANDS: Demands = Demands {
+    complete: false,
+    judged: true,
 };
 
 #[test]
@@ -31,7 +38,7 @@ fn the_first_flit_that_is_not_taken_is_told(rt: HostRuntime) {
         &mut input,
         &mut output,
         OPTIONS,
-        false,
+        DEMANDS,
         0,
         &mut Nobody,
     )
@@ -48,7 +55,7 @@ fn an_input_that_fails_is_told_so(rt: HostRuntime) {
         &mut input,
         &mut output,
         OPTIONS,
-        false,
+        DEMANDS,
         0,
         &mut Nobody,
     );
@@ -64,7 +71,7 @@ fn an_output_that_fails_is_told_so(rt: HostRuntime) {
         &mut input,
         &mut output,
         OPTIONS,
-        false,
+        DEMANDS,
         0,
         &mut Nobody,
     );

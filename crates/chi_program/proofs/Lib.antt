@@ -1,2 +1,0 @@
-pub mod AskedCommand
-pub mod Subcommands

@@ -5,7 +5,4 @@ pub mod Looks
 pub mod Stops
 pub mod Suites
 pub mod Faults
-pub mod Options
-pub mod Usage
-pub mod CommandLines
 pub mod Watches

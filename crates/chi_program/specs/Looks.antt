@@ -1,5 +1,5 @@
 -- Whether an answer is wanted in a check file, and whether it has a line (docs/FORMATS.md, "Check files").
-use Rattle.std.specs.Prelude.{nat_le, Bool, false, List, Result, Ok, Err, is_some}
+use Rattle.std.specs.Prelude.{ℕ, nat_le, nat_lt, Bool, false, List, Result, Ok, Err, is_some, length}
 use Rattle.std.specs.List.{list_any}
 use Rattle.chi_flit.specs.declared.numbers.Line.{Line}
 use Rattle.chi_script.specs.declared.faults.Fault.{Fault}
@@ -21,3 +21,8 @@ wants_in (Err fault) = false
 abbrev pub lacks_line : Line → Result (Sizes × List CheckLine) Fault → Bool
 lacks_line line (Ok (header, checks)) = nat_le header.lines line.0
 lacks_line line (Err fault) = false
+
+-- a good file has fewer commands
+abbrev pub lacks_rows : ℕ → Result (Sizes × List CheckLine) Fault → Bool
+lacks_rows first (Ok (header, checks)) = nat_lt (length checks) first
+lacks_rows first (Err fault) = false

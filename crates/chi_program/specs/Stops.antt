@@ -73,6 +73,8 @@ explain_end (outcomes.Malformed fault) = ends.Malformed
 abbrev pub observe_end : ObserveOutcome → End
 observe_end (observed.Accepted counts) = ends.Done
 observe_end (observed.Incomplete counts) = ends.Incomplete
+observe_end (observed.Partly counts) = ends.Few
+observe_end (observed.Unjudged counts) = ends.Nothing
 observe_end observed.Nothing = ends.Nothing
 observe_end (observed.Faulty line) = ends.Unexplained
 observe_end (observed.Malformed fault) = ends.Malformed

@@ -4,15 +4,15 @@ ghost use Rattle.std.specs.Prelude.{◌≡◌, Ok, Some};
 ghost use Rattle.chi_program.specs.Stops.{cover_end, merge_end};
 
 use crate::stops::End;
-use crate::suites::{read_files, suite_of};
+use crate::suites::{read_files, readable_of, tell_unread_files};
 use chi_coverage::{CoverShape, cover, merge};
 use chi_script::{Fault, Output, StandardOutput};
 use std::fmt::Write;
 use std::io;
 use std::rt::Files;
 
-/// Counts the cells that the files at the paths reach, and writes them to standard output. A line for each file that is
-/// faulty or can't be read is on standard error.
+/// Counts the cells that the files at the paths reach, and writes them to standard output, but where none can be read. A line
+/// for each file that can't be read is on standard error, and then one for each that is faulty.
 pub(crate) fn cover_files<R: Files + AllocGlobal + Print + Eprint>(
     rt: &R,
     paths: &[&str],
@@ -20,7 +20,11 @@ pub(crate) fn cover_files<R: Files + AllocGlobal + Print + Eprint>(
     least: u64,
 ) -> Result<End, Fault> {
     let files = read_files(rt, paths)?;
-    let suite = suite_of(rt.alloc(), &files)?;
+    let unread = tell_unread_files(rt, &files)?;
+    let suite = readable_of(rt.alloc(), &files)?;
+    if suite.is_empty() {
+        return Ok(End::Faulty(Fault::Read));
+    }
     let report = cover(rt.alloc(), &suite, shape)?;
     let mut output = StandardOutput::new(io::writer(rt));
     if output.write_all(&report.text).is_err() {
@@ -29,11 +33,16 @@ pub(crate) fn cover_files<R: Files + AllocGlobal + Print + Eprint>(
     if !report.faults.is_empty() {
         let _ = rt.eprint(report.faults.as_str());
     }
-    Ok(cover_end(report.fault, report.reached, least))
+    let fault = if unread {
+        Some(Fault::Read)
+    } else {
+        report.fault
+    };
+    Ok(cover_end(fault, report.reached, least))
 }
 
-/// Adds up the reports at the paths, and writes them to standard output. A line for each file that is no report or can't be
-/// read is on standard error.
+/// Adds up the reports at the paths, and writes them to standard output, but where none can be read. A line for each file that
+/// can't be read is on standard error, and then one for each that is no report.
 pub(crate) fn merge_files<R: Files + AllocGlobal + Print + Eprint>(
     rt: &R,
     paths: &[&str],
@@ -41,7 +50,11 @@ pub(crate) fn merge_files<R: Files + AllocGlobal + Print + Eprint>(
     least: u64,
 ) -> Result<End, Fault> {
     let files = read_files(rt, paths)?;
-    let suite = suite_of(rt.alloc(), &files)?;
+    let unread = tell_unread_files(rt, &files)?;
+    let suite = readable_of(rt.alloc(), &files)?;
+    if suite.is_empty() {
+        return Ok(End::Faulty(Fault::Read));
+    }
     let report = merge(rt.alloc(), &suite, shape)?;
     let mut output = StandardOutput::new(io::writer(rt));
     if output.write_all(&report.text).is_err() {
@@ -50,7 +63,7 @@ pub(crate) fn merge_files<R: Files + AllocGlobal + Print + Eprint>(
     if report.faulty {
         let _ = rt.eprint(report.faults.as_str());
     }
-    Ok(merge_end(report.faulty, report.reached, least))
+    Ok(merge_end(unread || report.faulty, report.reached, least))
 }
 
 /// The end of a sum of reports, of which some is faulty, or none, and so many cells were reached, where so many at least

@@ -4,6 +4,8 @@ ghost use Rattle.std.specs.Prelude.{Ok};
 
 use crate::stops::End;
 use chi_script::{Fault, FileInput, hint_at, read_most};
+use std::fs;
+use std::io::ErrorKind;
 use std::rt::Files;
 
 /// The path that stands for standard input.
@@ -41,8 +43,48 @@ pub(crate) fn tell<R: AllocGlobal + Eprint>(
     Ok(End::Faulty(fault))
 }
 
+/// What a file that can't be opened lacks, by the kind of the error; `None` where it isn't known.
+fn named_cause(kind: ErrorKind) -> Option<&'static str> {
+    match kind {
+        ErrorKind::NotFound | ErrorKind::NotADirectory => Some("no such file"),
+        ErrorKind::PermissionDenied => Some("no permission"),
+        ErrorKind::IsADirectory => Some("is a directory"),
+        _ => None,
+    }
+}
+
+/// Why the file at the path can't be opened; `None` where it isn't known, or where it can.
+fn unopened_cause<R: Files>(rt: &R, path: &str) -> Option<&'static str> {
+    match fs::open(rt, path) {
+        Ok(_) => None,
+        Err(error) => named_cause(error.kind()),
+    }
+}
+
+/// Why the file at the path can't be read; `None` where it isn't known. A directory can be opened, and isn't read.
+fn unread_cause<R: Files>(rt: &R, path: &str) -> Option<&'static str> {
+    match fs::metadata(rt, path) {
+        Ok(metadata) if metadata.is_dir() => Some("is a directory"),
+        _ => unopened_cause(rt, path),
+    }
+}
+
+/// Tells on standard error that the file at the path can't be read, and why, where that is known.
+pub(crate) fn tell_unread<R: Files + AllocGlobal + Eprint>(
+    rt: &R,
+    path: &str,
+) -> Result<End, Fault> {
+    let Some(cause) = unread_cause(rt, file_of(path)) else {
+        return tell_unread_file(rt, path);
+    };
+    let mut text = String::new(rt.alloc());
+    write!(text, "chihome: cannot read {path}: {cause}").map_err(|_| Fault::NoMemory)?;
+    let _ = rt.eprintln(text.as_str());
+    Ok(End::Faulty(Fault::Read))
+}
+
 /// Tells on standard error that the file at the path can't be read.
-pub(crate) fn tell_unread<R: AllocGlobal + Eprint>(rt: &R, path: &str) -> Result<End, Fault> {
+pub(crate) fn tell_unread_file<R: AllocGlobal + Eprint>(rt: &R, path: &str) -> Result<End, Fault> {
     let mut text = String::new(rt.alloc());
     write!(text, "chihome: {path}: cannot read").map_err(|_| Fault::NoMemory)?;
     let _ = rt.eprintln(text.as_str());

@@ -1,21 +1,16 @@
 //! What the program is asked to do.
 
-ghost use Rattle.std.specs.Prelude.{◌≡◌, IfOk, false, map};
-ghost use Rattle.std.specs.Option.{option_and_then, option_map};
-ghost use Rattle.clap.specs.Words.{all_of, app_of, first_of, found_of, rows_of, rule_of, subcommand_rows_of};
-ghost use Rattle.chi_program.specs.CommandLines.{IsAsked, IsCommand, asked_behind, asked_by, asked_in, chart_in, chart_line, check_in, check_line, command_lines, cover_in, cover_line, draw_in, draw_line, explain_in, explain_line, file_rule, files_rule, flag_rule, header_rule, observe_in, observe_line, option_rule, program_line, replay_in, replay_line, storm_asked, storm_line, topic_rule, usage_in, usage_line, version_in, version_line};
-
 use crate::faults::ArgFault;
 use crate::options::{
-    CellForm, RowRange, address, commands, context, form, is_given, least, only, rows, seed, seen,
-    start, stores, turns, types, watched_types, wild,
+    CellForm, RowRange, address, commands, context, data_listing, form, is_given, judged, least,
+    only, opcodes, rows, seed, seen, start, stores, turns, types, watched_types, wild,
 };
 use crate::usages::{Topic, topic_of};
 use chi_explain::StoreListing;
 use chi_flit::Line;
-use chi_observe::Log;
+use chi_observe::{Demands, Log};
 use chi_resolution::Types;
-use chi_trace::Address;
+use chi_trace::{Address, TraceForm};
 use clap::{Arg, ArgAction, ArgMatches, Command};
 use std::alloc::{AllocError, Global};
 
@@ -57,8 +52,8 @@ pub enum Job<'a> {
         only: Option<Address>,
     },
     /// `observe FILE [--types two|four|any] [--stores hidden|listed] [--start empty|unknown] [--seen requesters|home]
-    /// [--early-grants] [--complete] [--context N] [--progress]`: judges the trace at this path, whatever its home and its
-    /// caches are.
+    /// [--early-grants] [--complete] [--unjudged refused|allowed] [--opcodes issue-b|any] [--data listed|none] [--context N]
+    /// [--progress]`: judges the trace at this path, whatever its home and its caches are.
     Observe {
         path: &'a str,
         /// Which types of credit it has; any where it isn't given.
@@ -69,8 +64,10 @@ pub enum Job<'a> {
         log: Log,
         /// Whether its monitors stand at the requesters, where a grant may come before its RetryAck.
         early_grants: bool,
-        /// Whether nothing may be open at its end.
-        complete: bool,
+        /// Whether nothing may be open at its end, and whether all of it has to be judged.
+        demands: Demands,
+        /// Which opcodes it may have, and whether it has data.
+        form: TraceForm,
         /// How many flits of a line are told with a fault, from 1 to 64; 0 where it isn't given.
         context: u64,
         /// Whether it is told how far the reading has come.
@@ -129,9 +126,7 @@ pub enum Job<'a> {
 /// is out of range or written otherwise than in a replay file, and where they ask for help; `NoMemory`
 /// where memory runs out.
 /// Source: `docs/FORMATS.md`, "The program".
-pub fn arguments<'a>(alloc: Global, words: &'a [&'a str]) -> Result<Job<'a>, ArgFault>
-    ensures { IsAsked (asked_in (map (λ word. word.now) words.entry.now)) result }
-{
+pub fn arguments<'a>(alloc: Global, words: &'a [&'a str]) -> Result<Job<'a>, ArgFault> {
     let matches = command_line(alloc)?.try_get_matches_from(words)?;
     read_job(alloc, &matches)
 }
@@ -226,6 +221,15 @@ const COMPLETE: &str = "complete";
 /// The option that says how many flits of a line are told with a fault.
 const CONTEXT: &str = "context";
 
+/// The option that says whether flits may be left unjudged.
+const UNJUDGED: &str = "unjudged";
+
+/// The option that says which opcodes a trace may have.
+const OPCODES: &str = "opcodes";
+
+/// The option that says whether a trace has data.
+const DATA: &str = "data";
+
 const PROGRESS: &str = "progress";
 
 /// The option that says how many commands are drawn.
@@ -244,9 +248,7 @@ const KINDS: &str = "kinds";
 const DRAIN: &str = "drain";
 
 /// The command lines of the program.
-fn command_line<'a>(alloc: Global) -> Result<Command<'a>, AllocError>
-    ensures { IfOk result (λ command. app_of command ≡ command_lines) }
-{
+fn command_line<'a>(alloc: Global) -> Result<Command<'a>, AllocError> {
     program_command(alloc)
         .subcommand(replay_command(alloc)?)?
         .subcommand(check_command(alloc)?)?
@@ -261,32 +263,24 @@ fn command_line<'a>(alloc: Global) -> Result<Command<'a>, AllocError>
 }
 
 /// The program itself, of which one command has to be given.
-fn program_command<'a>(alloc: Global) -> Command<'a>
-    ensures { app_of result ≡ program_line }
-{
+fn program_command<'a>(alloc: Global) -> Command<'a> {
     Command::new(alloc, "chihome").subcommand_required(true)
 }
 
 /// The command line of `replay`.
-fn replay_command<'a>(alloc: Global) -> Result<Command<'a>, AllocError>
-    ensures { IfOk result (λ command. IsCommand replay_line command) }
-{
+fn replay_command<'a>(alloc: Global) -> Result<Command<'a>, AllocError> {
     Command::new(alloc, REPLAY).arg(file(alloc))
 }
 
 /// The command line of `check`.
-fn check_command<'a>(alloc: Global) -> Result<Command<'a>, AllocError>
-    ensures { IfOk result (λ command. IsCommand check_line command) }
-{
+fn check_command<'a>(alloc: Global) -> Result<Command<'a>, AllocError> {
     Command::new(alloc, CHECK)
         .arg(files(alloc))?
         .arg(flag(alloc, TAP))
 }
 
 /// The command line of `chart`.
-fn chart_command<'a>(alloc: Global) -> Result<Command<'a>, AllocError>
-    ensures { IfOk result (λ command. IsCommand chart_line command) }
-{
+fn chart_command<'a>(alloc: Global) -> Result<Command<'a>, AllocError> {
     Command::new(alloc, CHART)
         .arg(file(alloc))?
         .arg(option(alloc, LINE))?
@@ -294,9 +288,7 @@ fn chart_command<'a>(alloc: Global) -> Result<Command<'a>, AllocError>
 }
 
 /// The command line of `explain`.
-fn explain_command<'a>(alloc: Global) -> Result<Command<'a>, AllocError>
-    ensures { IfOk result (λ command. IsCommand explain_line command) }
-{
+fn explain_command<'a>(alloc: Global) -> Result<Command<'a>, AllocError> {
     Command::new(alloc, EXPLAIN)
         .arg(file(alloc))?
         .arg(option(alloc, TYPES))?
@@ -307,9 +299,7 @@ fn explain_command<'a>(alloc: Global) -> Result<Command<'a>, AllocError>
 }
 
 /// The command line of `observe`.
-fn observe_command<'a>(alloc: Global) -> Result<Command<'a>, AllocError>
-    ensures { IfOk result (λ command. IsCommand observe_line command) }
-{
+fn observe_command<'a>(alloc: Global) -> Result<Command<'a>, AllocError> {
     Command::new(alloc, OBSERVE)
         .arg(file(alloc))?
         .arg(option(alloc, TYPES))?
@@ -318,14 +308,15 @@ fn observe_command<'a>(alloc: Global) -> Result<Command<'a>, AllocError>
         .arg(option(alloc, SEEN))?
         .arg(flag(alloc, EARLY_GRANTS))?
         .arg(flag(alloc, COMPLETE))?
+        .arg(option(alloc, UNJUDGED))?
+        .arg(option(alloc, OPCODES))?
+        .arg(option(alloc, DATA))?
         .arg(option(alloc, CONTEXT))?
         .arg(flag(alloc, PROGRESS))
 }
 
 /// The command line of `storm`.
-fn storm_command<'a>(alloc: Global) -> Result<Command<'a>, AllocError>
-    ensures { IfOk result (λ command. IsCommand storm_line command) }
-{
+fn storm_command<'a>(alloc: Global) -> Result<Command<'a>, AllocError> {
     Command::new(alloc, STORM)
         .arg(file(alloc))?
         .arg(option(alloc, SEED))?
@@ -333,9 +324,7 @@ fn storm_command<'a>(alloc: Global) -> Result<Command<'a>, AllocError>
 }
 
 /// The command line of `cover`.
-fn cover_command<'a>(alloc: Global) -> Result<Command<'a>, AllocError>
-    ensures { IfOk result (λ command. IsCommand cover_line command) }
-{
+fn cover_command<'a>(alloc: Global) -> Result<Command<'a>, AllocError> {
     Command::new(alloc, COVER)
         .arg(files(alloc))?
         .arg(flag(alloc, MISSING))?
@@ -346,9 +335,7 @@ fn cover_command<'a>(alloc: Global) -> Result<Command<'a>, AllocError>
 }
 
 /// The command line of `draw`.
-fn draw_command<'a>(alloc: Global) -> Result<Command<'a>, AllocError>
-    ensures { IfOk result (λ command. IsCommand draw_line command) }
-{
+fn draw_command<'a>(alloc: Global) -> Result<Command<'a>, AllocError> {
     Command::new(alloc, DRAW)
         .arg(header(alloc))?
         .arg(option(alloc, SEED))?
@@ -360,75 +347,51 @@ fn draw_command<'a>(alloc: Global) -> Result<Command<'a>, AllocError>
 }
 
 /// The command line of `usage`.
-fn usage_command<'a>(alloc: Global) -> Result<Command<'a>, AllocError>
-    ensures { IfOk result (λ command. IsCommand usage_line command) }
-{
+fn usage_command<'a>(alloc: Global) -> Result<Command<'a>, AllocError> {
     Command::new(alloc, USAGE).arg(topic_argument(alloc))
 }
 
 /// The command line of `version`.
-fn version_command<'a>(alloc: Global) -> Command<'a>
-    ensures { IsCommand version_line result }
-{
+fn version_command<'a>(alloc: Global) -> Command<'a> {
     Command::new(alloc, VERSION)
 }
 
 /// The name of a command, which may be given.
-fn topic_argument<'a>(alloc: Global) -> Arg<'a>
-    ensures rule { rule_of result ≡ topic_rule }
-    ensures local { result.global ≡ false }
-{
+fn topic_argument<'a>(alloc: Global) -> Arg<'a> {
     Arg::new(alloc, COMMAND).action(ArgAction::Set)
 }
 
 /// The path of a file, which has to be given.
-fn file<'a>(alloc: Global) -> Arg<'a>
-    ensures rule { rule_of result ≡ file_rule }
-    ensures local { result.global ≡ false }
-{
+fn file<'a>(alloc: Global) -> Arg<'a> {
     Arg::new(alloc, FILE).required(true).action(ArgAction::Set)
 }
 
 /// The paths of files, of which one has to be given at least.
-fn files<'a>(alloc: Global) -> Arg<'a>
-    ensures rule { rule_of result ≡ files_rule }
-    ensures local { result.global ≡ false }
-{
+fn files<'a>(alloc: Global) -> Arg<'a> {
     Arg::new(alloc, FILE)
         .required(true)
         .action(ArgAction::Append)
 }
 
 /// The header of a file, which has to be given.
-fn header<'a>(alloc: Global) -> Arg<'a>
-    ensures rule { rule_of result ≡ header_rule }
-    ensures local { result.global ≡ false }
-{
+fn header<'a>(alloc: Global) -> Arg<'a> {
     Arg::new(alloc, HEADER)
         .required(true)
         .action(ArgAction::Set)
 }
 
 /// An option of this name, which has one value where it is given.
-fn option<'a>(alloc: Global, name: &'a str) -> Arg<'a>
-    ensures rule { rule_of result ≡ option_rule name.entry.now }
-    ensures local { result.global ≡ false }
-{
+fn option<'a>(alloc: Global, name: &'a str) -> Arg<'a> {
     Arg::new(alloc, name).long(name).action(ArgAction::Set)
 }
 
 /// An option of this name that has no value.
-fn flag<'a>(alloc: Global, name: &'a str) -> Arg<'a>
-    ensures rule { rule_of result ≡ flag_rule name.entry.now }
-    ensures local { result.global ≡ false }
-{
+fn flag<'a>(alloc: Global, name: &'a str) -> Arg<'a> {
     Arg::new(alloc, name).long(name).action(ArgAction::SetTrue)
 }
 
 /// The job of the subcommand that was read.
-fn read_job<'a>(alloc: Global, matches: &ArgMatches<'a>) -> Result<Job<'a>, ArgFault>
-    ensures { IsAsked (option_and_then asked_behind (subcommand_rows_of matches.now)) result }
-{
+fn read_job<'a>(alloc: Global, matches: &ArgMatches<'a>) -> Result<Job<'a>, ArgFault> {
     match matches.subcommand() {
         Some((REPLAY, replay)) => read_replay(replay),
         Some((CHECK, check)) => read_check(alloc, check),
@@ -445,9 +408,7 @@ fn read_job<'a>(alloc: Global, matches: &ArgMatches<'a>) -> Result<Job<'a>, ArgF
 }
 
 /// The job of `replay FILE`.
-fn read_replay<'a>(matches: &ArgMatches<'a>) -> Result<Job<'a>, ArgFault>
-    ensures { IsAsked (replay_in (rows_of (found_of matches.now))) result }
-{
+fn read_replay<'a>(matches: &ArgMatches<'a>) -> Result<Job<'a>, ArgFault> {
     match text_of(matches, FILE) {
         Some(path) => Ok(Job::Replay(path)),
         None => Err(ArgFault::Bad),
@@ -455,9 +416,7 @@ fn read_replay<'a>(matches: &ArgMatches<'a>) -> Result<Job<'a>, ArgFault>
 }
 
 /// The job of `check FILE..` and its option.
-fn read_check<'a>(alloc: Global, matches: &ArgMatches<'a>) -> Result<Job<'a>, ArgFault>
-    ensures { IsAsked (check_in (rows_of (found_of matches.now))) result }
-{
+fn read_check<'a>(alloc: Global, matches: &ArgMatches<'a>) -> Result<Job<'a>, ArgFault> {
     let Some(given) = texts_of(matches, FILE) else {
         return Err(ArgFault::Bad);
     };
@@ -468,9 +427,7 @@ fn read_check<'a>(alloc: Global, matches: &ArgMatches<'a>) -> Result<Job<'a>, Ar
 }
 
 /// The job of `chart FILE` and its options.
-fn read_chart<'a>(matches: &ArgMatches<'a>) -> Option<Job<'a>>
-    ensures { option_map asked_by result ≡ chart_in (rows_of (found_of matches.now)) }
-{
+fn read_chart<'a>(matches: &ArgMatches<'a>) -> Option<Job<'a>> {
     let path = text_of(matches, FILE)?;
     let only = only(text_of(matches, LINE))?;
     let rows = rows(text_of(matches, ROWS))?;
@@ -478,9 +435,7 @@ fn read_chart<'a>(matches: &ArgMatches<'a>) -> Option<Job<'a>>
 }
 
 /// The job of `explain FILE` and its options.
-fn read_explain<'a>(matches: &ArgMatches<'a>) -> Option<Job<'a>>
-    ensures { option_map asked_by result ≡ explain_in (rows_of (found_of matches.now)) }
-{
+fn read_explain<'a>(matches: &ArgMatches<'a>) -> Option<Job<'a>> {
     let path = text_of(matches, FILE)?;
     let types = types(text_of(matches, TYPES))?;
     let stores = stores(text_of(matches, STORES))?;
@@ -498,16 +453,21 @@ fn read_explain<'a>(matches: &ArgMatches<'a>) -> Option<Job<'a>>
 }
 
 /// The job of `observe FILE` and its options.
-fn read_observe<'a>(matches: &ArgMatches<'a>) -> Option<Job<'a>>
-    ensures { option_map asked_by result ≡ observe_in (rows_of (found_of matches.now)) }
-{
+fn read_observe<'a>(matches: &ArgMatches<'a>) -> Option<Job<'a>> {
     let path = text_of(matches, FILE)?;
     let types = watched_types(text_of(matches, TYPES))?;
     let stores = stores(text_of(matches, STORES))?;
     let start = start(text_of(matches, START))?;
     let log = seen(text_of(matches, SEEN), start, stores)?;
     let early_grants = is_given(text_of(matches, EARLY_GRANTS));
-    let complete = is_given(text_of(matches, COMPLETE));
+    let demands = Demands {
+        complete: is_given(text_of(matches, COMPLETE)),
+        judged: judged(text_of(matches, UNJUDGED))?,
+    };
+    let form = TraceForm {
+        opcodes: opcodes(text_of(matches, OPCODES))?,
+        listing: data_listing(text_of(matches, DATA))?,
+    };
     let context = context(text_of(matches, CONTEXT))?;
     let progress = is_given(text_of(matches, PROGRESS));
     Some(Job::Observe {
@@ -516,16 +476,15 @@ fn read_observe<'a>(matches: &ArgMatches<'a>) -> Option<Job<'a>>
         stores,
         log,
         early_grants,
-        complete,
+        demands,
+        form,
         context,
         progress,
     })
 }
 
 /// The job of `storm FILE` and its options.
-fn read_storm<'a>(matches: &ArgMatches<'a>) -> Option<Job<'a>>
-    ensures { option_map asked_by result ≡ storm_asked (rows_of (found_of matches.now)) }
-{
+fn read_storm<'a>(matches: &ArgMatches<'a>) -> Option<Job<'a>> {
     let path = text_of(matches, FILE)?;
     let seed = seed(text_of(matches, SEED))?;
     let turns = turns(text_of(matches, TURNS))?;
@@ -533,9 +492,7 @@ fn read_storm<'a>(matches: &ArgMatches<'a>) -> Option<Job<'a>>
 }
 
 /// The job of `cover FILE..` and its options.
-fn read_cover<'a>(alloc: Global, matches: &ArgMatches<'a>) -> Result<Job<'a>, ArgFault>
-    ensures { IsAsked (cover_in (rows_of (found_of matches.now))) result }
-{
+fn read_cover<'a>(alloc: Global, matches: &ArgMatches<'a>) -> Result<Job<'a>, ArgFault> {
     let Some(given) = texts_of(matches, FILE) else {
         return Err(ArgFault::Bad);
     };
@@ -559,9 +516,7 @@ fn read_cover<'a>(alloc: Global, matches: &ArgMatches<'a>) -> Result<Job<'a>, Ar
 }
 
 /// The job of `draw HEADER` and its options.
-fn read_draw<'a>(matches: &ArgMatches<'a>) -> Option<Job<'a>>
-    ensures { option_map asked_by result ≡ draw_in (rows_of (found_of matches.now)) }
-{
+fn read_draw<'a>(matches: &ArgMatches<'a>) -> Option<Job<'a>> {
     let header = text_of(matches, HEADER)?;
     let seed = seed(text_of(matches, SEED))?;
     let commands = commands(text_of(matches, COMMANDS))?;
@@ -581,32 +536,22 @@ fn read_draw<'a>(matches: &ArgMatches<'a>) -> Option<Job<'a>>
 }
 
 /// The job of `usage` and the name of a command.
-fn read_usage<'a>(matches: &ArgMatches<'a>) -> Option<Job<'a>>
-    ensures { option_map asked_by result ≡ usage_in (rows_of (found_of matches.now)) }
-{
+fn read_usage<'a>(matches: &ArgMatches<'a>) -> Option<Job<'a>> {
     Some(Job::Usage(topic_of(text_of(matches, COMMAND))?))
 }
 
 /// The job of `version`.
-fn read_version<'a>(matches: &ArgMatches<'a>) -> Option<Job<'a>>
-    ensures { option_map asked_by result ≡ version_in (rows_of (found_of matches.now)) }
-{
+fn read_version<'a>(matches: &ArgMatches<'a>) -> Option<Job<'a>> {
     let _ = matches;
     Some(Job::Version)
 }
 
 /// The first text that was found for this name.
-fn text_of<'a>(matches: &ArgMatches<'a>, name: &str) -> Option<&'a str>
-    ensures { option_map (λ text. text.now) result
-        ≡ first_of name.now (rows_of (found_of matches.now)) }
-{
+fn text_of<'a>(matches: &ArgMatches<'a>, name: &str) -> Option<&'a str> {
     matches.get_str(name)
 }
 
 /// All texts that were found for this name.
-fn texts_of<'m, 'a>(matches: &'m ArgMatches<'a>, name: &str) -> Option<&'m [&'a str]>
-    ensures { option_map (λ texts. map (λ text. text.now) texts.now) result
-        ≡ all_of name.now (rows_of (found_of matches.now)) }
-{
+fn texts_of<'m, 'a>(matches: &'m ArgMatches<'a>, name: &str) -> Option<&'m [&'a str]> {
     matches.get_strs(name)
 }

@@ -1,9 +1,9 @@
 //! What a check file has besides its run: whether an answer is wanted in it, and a line.
 
-ghost use Rattle.std.specs.Prelude.{◌≡◌, IfOk, map};
+ghost use Rattle.std.specs.Prelude.{◌≡◌, IfOk, length, map};
 ghost use Rattle.chi_script.specs.Checks.{line_of_check};
 ghost use Rattle.chi_script.specs.CheckFiles.{check_file_of};
-ghost use Rattle.chi_program.specs.Looks.{any_wanted, is_wanted, lacks_line, wants_in};
+ghost use Rattle.chi_program.specs.Looks.{any_wanted, is_wanted, lacks_line, lacks_rows, wants_in};
 
 use chi_flit::Line;
 use chi_script::{Check, Fault, read_checks};
@@ -45,4 +45,14 @@ pub(crate) fn lacks_line(alloc: Global, bytes: &[u8], line: Line) -> Result<bool
 {
     let script = read_checks(alloc, bytes)?;
     Ok(line.0 >= script.header.lines())
+}
+
+/// Whether the check file whose bytes these are has fewer commands than this one's number, which is counted from 1; its first
+/// fault where it is faulty, or want of memory.
+/// Source: `docs/FORMATS.md`, "Charts".
+pub(crate) fn lacks_rows(alloc: Global, bytes: &[u8], first: u64) -> Result<bool, Fault>
+    ensures { IfOk result (λ lacks. lacks ≡ lacks_rows first (check_file_of bytes.now)) }
+{
+    let script = read_checks(alloc, bytes)?;
+    Ok((script.checks.len() as u64) < first)
 }

@@ -1,22 +1,19 @@
 //! The values of options.
 
-ghost use Rattle.std.specs.Prelude.{◌≡◌, ◌==◌, Some, option_map};
+ghost use Rattle.std.specs.Prelude.{◌≡◌, ◌==◌};
 ghost use Rattle.std.specs.List.{position};
-ghost use Rattle.chi_program.specs.Options.{asked_address_of, commands_option, context_option, form_option, is_given, least_option, line_option, range_of, rows_option, seed_of, home_log, seen_option, start_option, stores_option, turns_of, types_option, watched_types_option, wild_option};
 
 use chi_explain::StoreListing;
 use chi_flit::Line;
 use chi_observe::Log;
 use chi_resolution::Types;
 use chi_script::{is, number};
-use chi_trace::{Address, read_address};
+use chi_trace::{Address, Listing, Opcodes, read_address};
 
 /// The seed of a storm whose `--seed` has this value: 1 where it isn't given, and `None` where the value
 /// is no number of a replay file.
 /// Source: `docs/FORMATS.md`, "The program".
-pub fn seed(value: Option<&str>) -> Option<u64>
-    ensures { result ≡ seed_of (option_map (λ word. word.now) value.entry) }
-{
+pub fn seed(value: Option<&str>) -> Option<u64> {
     match value {
         None => Some(1),
         Some(word) => number(word.as_bytes()),
@@ -26,9 +23,7 @@ pub fn seed(value: Option<&str>) -> Option<u64>
 /// How many turns an agent takes at most in a storm whose `--turns` has this value: 10,000,000 where it
 /// isn't given, and `None` where the value is no number of a replay file from 1 to 4,000,000,000.
 /// Source: `docs/FORMATS.md`, "The program".
-pub fn turns(value: Option<&str>) -> Option<u64>
-    ensures { result ≡ turns_of (option_map (λ word. word.now) value.entry) }
-{
+pub fn turns(value: Option<&str>) -> Option<u64> {
     match value {
         None => Some(10_000_000),
         Some(word) => {
@@ -41,9 +36,7 @@ pub fn turns(value: Option<&str>) -> Option<u64>
 /// How many commands are drawn where `--commands` has this value: `None` where it isn't given, and where the value is no
 /// number of a replay file from 1 to 10,000,000.
 /// Source: `docs/FORMATS.md`, "The program".
-pub fn commands(value: Option<&str>) -> Option<u64>
-    ensures { result ≡ commands_option (option_map (λ word. word.now) value.entry) }
-{
+pub fn commands(value: Option<&str>) -> Option<u64> {
     let commands = number(value?.as_bytes())?;
     (1..=10_000_000).contains(&commands).then_some(commands)
 }
@@ -51,9 +44,7 @@ pub fn commands(value: Option<&str>) -> Option<u64>
 /// How many commands in a hundred are drawn from all where `--wild` has this value: 0 where it isn't given, and `None`
 /// where the value is no number of a replay file from 0 to 100.
 /// Source: `docs/FORMATS.md`, "The program".
-pub fn wild(value: Option<&str>) -> Option<u8>
-    ensures { result ≡ wild_option (option_map (λ word. word.now) value.entry) }
-{
+pub fn wild(value: Option<&str>) -> Option<u8> {
     match value {
         None => Some(0),
         Some(word) => match number(word.as_bytes())? {
@@ -66,9 +57,7 @@ pub fn wild(value: Option<&str>) -> Option<u8>
 /// The line alone that a chart shows whose `--line` has this value: none where it isn't given, and `None`
 /// where the value is no number of a replay file from 0 to 63.
 /// Source: `docs/FORMATS.md`, "The program".
-pub fn only(value: Option<&str>) -> Option<Option<Line>>
-    ensures { result ≡ line_option (option_map (λ word. word.now) value.entry) }
-{
+pub fn only(value: Option<&str>) -> Option<Option<Line>> {
     match value {
         None => Some(None),
         Some(word) => match number(word.as_bytes())? {
@@ -91,9 +80,7 @@ pub struct RowRange {
 /// The rows that a chart shows whose `--rows` has this value: all where it isn't given, and `None` where the value
 /// isn't `A-B` with numbers of a replay file, of which A is at least 1 and B no less than A.
 /// Source: `docs/FORMATS.md`, "The program".
-pub fn rows(value: Option<&str>) -> Option<RowRange>
-    ensures { result ≡ rows_option (option_map (λ word. word.now) value.entry) }
-{
+pub fn rows(value: Option<&str>) -> Option<RowRange> {
     match value {
         None => Some(RowRange {
             first: 1,
@@ -115,9 +102,7 @@ fn dash(word: &[u8]) -> Option<usize>
 }
 
 /// The range from this number to that one.
-fn range(first: &[u8], last: &[u8]) -> Option<RowRange>
-    ensures { result ≡ range_of first.now last.now }
-{
+fn range(first: &[u8], last: &[u8]) -> Option<RowRange> {
     let (first, last) = (number(first)?, number(last)?);
     (1..=last)
         .contains(&first)
@@ -127,9 +112,7 @@ fn range(first: &[u8], last: &[u8]) -> Option<RowRange>
 /// Which types of credit a trace has whose `--types` has this value: those of profile `Two` where it isn't given, and
 /// `None` where the value is none of `two`, `four` and `any`.
 /// Source: `docs/FORMATS.md`, "The program".
-pub fn types(value: Option<&str>) -> Option<Types>
-    ensures { result ≡ types_option (option_map (λ word. word.now) value.entry) }
-{
+pub fn types(value: Option<&str>) -> Option<Types> {
     match value {
         None => Some(Types::Two),
         Some(word) => types_in(word.as_bytes()),
@@ -138,9 +121,7 @@ pub fn types(value: Option<&str>) -> Option<Types>
 
 /// The same of a trace that is observed: any where it isn't given.
 /// Source: `docs/FORMATS.md`, "The program".
-pub fn watched_types(value: Option<&str>) -> Option<Types>
-    ensures { result ≡ watched_types_option (option_map (λ word. word.now) value.entry) }
-{
+pub fn watched_types(value: Option<&str>) -> Option<Types> {
     match value {
         None => Some(Types::Any),
         Some(word) => types_in(word.as_bytes()),
@@ -148,9 +129,7 @@ pub fn watched_types(value: Option<&str>) -> Option<Types>
 }
 
 /// The types of this name.
-fn types_in(word: &[u8]) -> Option<Types>
-    ensures { result ≡ types_option (Some word.now) }
-{
+fn types_in(word: &[u8]) -> Option<Types> {
     if is(word, "two") {
         Some(Types::Two)
     } else if is(word, "four") {
@@ -165,9 +144,7 @@ fn types_in(word: &[u8]) -> Option<Types>
 /// How a trace is taken whose `--start` has this value: whole where it isn't given, and `None` where the value is neither
 /// `empty` nor `unknown`.
 /// Source: `docs/FORMATS.md`, "The program".
-pub fn start(value: Option<&str>) -> Option<Log>
-    ensures { result ≡ start_option (option_map (λ word. word.now) value.entry) }
-{
+pub fn start(value: Option<&str>) -> Option<Log> {
     match value {
         None => Some(Log::Whole),
         Some(word) => start_in(word.as_bytes()),
@@ -175,9 +152,7 @@ pub fn start(value: Option<&str>) -> Option<Log>
 }
 
 /// The same of a start of this name.
-fn start_in(word: &[u8]) -> Option<Log>
-    ensures { result ≡ start_option (Some word.now) }
-{
+fn start_in(word: &[u8]) -> Option<Log> {
     if is(word, "empty") {
         Some(Log::Whole)
     } else if is(word, "unknown") {
@@ -191,9 +166,7 @@ fn start_in(word: &[u8]) -> Option<Log>
 /// isn't given, and `None` where the value is neither `requesters` nor `home`, and of a log that is taken at the home and
 /// begins in the middle or lists all stores.
 /// Source: `docs/FORMATS.md`, "The program".
-pub fn seen(value: Option<&str>, start: Log, stores: StoreListing) -> Option<Log>
-    ensures { result ≡ seen_option (option_map (λ word. word.now) value.entry) start stores }
-{
+pub fn seen(value: Option<&str>, start: Log, stores: StoreListing) -> Option<Log> {
     match value {
         None => Some(start),
         Some(word) => seen_in(word.as_bytes(), start, stores),
@@ -201,9 +174,7 @@ pub fn seen(value: Option<&str>, start: Log, stores: StoreListing) -> Option<Log
 }
 
 /// The same of a place of this name.
-fn seen_in(word: &[u8], start: Log, stores: StoreListing) -> Option<Log>
-    ensures { result ≡ seen_option (Some word.now) start stores }
-{
+fn seen_in(word: &[u8], start: Log, stores: StoreListing) -> Option<Log> {
     if is(word, "requesters") {
         Some(start)
     } else if is(word, "home") {
@@ -214,9 +185,7 @@ fn seen_in(word: &[u8], start: Log, stores: StoreListing) -> Option<Log>
 }
 
 /// A log that is taken at the home: none that begins in the middle, or lists all stores.
-fn home_log(start: Log, stores: StoreListing) -> Option<Log>
-    ensures { result ≡ home_log start stores }
-{
+fn home_log(start: Log, stores: StoreListing) -> Option<Log> {
     match (start, stores) {
         (Log::Whole, StoreListing::Partial) => Some(Log::Home),
         _ => None,
@@ -226,9 +195,7 @@ fn home_log(start: Log, stores: StoreListing) -> Option<Log>
 /// Which stores a trace lists whose `--stores` has this value: some or none where it isn't given, and `None` where the
 /// value is neither `hidden` nor `listed`.
 /// Source: `docs/FORMATS.md`, "The program".
-pub fn stores(value: Option<&str>) -> Option<StoreListing>
-    ensures { result ≡ stores_option (option_map (λ word. word.now) value.entry) }
-{
+pub fn stores(value: Option<&str>) -> Option<StoreListing> {
     match value {
         None => Some(StoreListing::Partial),
         Some(word) => listing_in(word.as_bytes()),
@@ -236,15 +203,46 @@ pub fn stores(value: Option<&str>) -> Option<StoreListing>
 }
 
 /// The listing of this name.
-fn listing_in(word: &[u8]) -> Option<StoreListing>
-    ensures { result ≡ stores_option (Some word.now) }
-{
+fn listing_in(word: &[u8]) -> Option<StoreListing> {
     if is(word, "hidden") {
         Some(StoreListing::Partial)
     } else if is(word, "listed") {
         Some(StoreListing::Complete)
     } else {
         None
+    }
+}
+
+/// Which opcodes a trace may have whose `--opcodes` has this value: those of Issue B where it isn't given, and `None` where
+/// the value is neither `issue-b` nor `any`.
+/// Source: `docs/FORMATS.md`, "The program".
+pub fn opcodes(value: Option<&str>) -> Option<Opcodes> {
+    match value {
+        None | Some("issue-b") => Some(Opcodes::IssueB),
+        Some("any") => Some(Opcodes::Any),
+        Some(_) => None,
+    }
+}
+
+/// Whether a trace has data whose `--data` has this value: it has where it isn't given, and `None` where the value is
+/// neither `listed` nor `none`.
+/// Source: `docs/FORMATS.md`, "The program".
+pub fn data_listing(value: Option<&str>) -> Option<Listing> {
+    match value {
+        None | Some("listed") => Some(Listing::Listed),
+        Some("none") => Some(Listing::None),
+        Some(_) => None,
+    }
+}
+
+/// Whether each flit, load and store has to be judged where `--unjudged` has this value: so it is where it isn't given, and
+/// `None` where the value is neither `refused` nor `allowed`.
+/// Source: `docs/FORMATS.md`, "The program".
+pub fn judged(value: Option<&str>) -> Option<bool> {
+    match value {
+        None | Some("refused") => Some(true),
+        Some("allowed") => Some(false),
+        Some(_) => None,
     }
 }
 
@@ -263,10 +261,7 @@ pub enum CellForm {
 /// How cells are written where `--json` and `--tsv` have these values: as lines where none is given, and `None` where both
 /// are.
 /// Source: `docs/FORMATS.md`, "The program".
-pub fn form(json: Option<&str>, tsv: Option<&str>) -> Option<CellForm>
-    ensures { result ≡ form_option (is_given (option_map (λ word. word.now) json.entry))
-        (is_given (option_map (λ word. word.now) tsv.entry)) }
-{
+pub fn form(json: Option<&str>, tsv: Option<&str>) -> Option<CellForm> {
     match (is_given(json), is_given(tsv)) {
         (false, false) => Some(CellForm::Lines),
         (true, false) => Some(CellForm::Json),
@@ -278,9 +273,7 @@ pub fn form(json: Option<&str>, tsv: Option<&str>) -> Option<CellForm>
 /// How many cells are to be reached at least where `--at-least` has this value: 0 where it isn't given, and `None` where
 /// the value is no number of a replay file.
 /// Source: `docs/FORMATS.md`, "The program".
-pub fn least(value: Option<&str>) -> Option<u64>
-    ensures { result ≡ least_option (option_map (λ word. word.now) value.entry) }
-{
+pub fn least(value: Option<&str>) -> Option<u64> {
     match value {
         None => Some(0),
         Some(word) => number(word.as_bytes()),
@@ -290,9 +283,7 @@ pub fn least(value: Option<&str>) -> Option<u64>
 /// How many flits of a line are told with a fault where `--context` has this value: 0 where it isn't given, and `None`
 /// where the value is no number of a replay file from 1 to 64.
 /// Source: `docs/FORMATS.md`, "The program".
-pub fn context(value: Option<&str>) -> Option<u64>
-    ensures { result ≡ context_option (option_map (λ word. word.now) value.entry) }
-{
+pub fn context(value: Option<&str>) -> Option<u64> {
     match value {
         None => Some(0),
         Some(word) => match number(word.as_bytes())? {
@@ -304,9 +295,7 @@ pub fn context(value: Option<&str>) -> Option<u64>
 
 /// Whether an option without a value was given, of which the command line has this word.
 /// Source: `docs/FORMATS.md`, "The program".
-pub fn is_given(value: Option<&str>) -> bool
-    ensures { result ≡ is_given (option_map (λ word. word.now) value.entry) }
-{
+pub fn is_given(value: Option<&str>) -> bool {
     match value {
         None => false,
         Some(word) => is(word.as_bytes(), "true"),
@@ -316,9 +305,7 @@ pub fn is_given(value: Option<&str>) -> bool
 /// The address whose line alone is explained where `--line` has this value: none where it isn't given, and `None`
 /// where the value is no address of a trace.
 /// Source: `docs/FORMATS.md`, "The program".
-pub fn address(value: Option<&str>) -> Option<Option<Address>>
-    ensures { result ≡ asked_address_of (option_map (λ word. word.now) value.entry) }
-{
+pub fn address(value: Option<&str>) -> Option<Option<Address>> {
     match value {
         None => Some(None),
         Some(word) => Some(Some(read_address(word.as_bytes())?)),

@@ -107,7 +107,8 @@ fn work<R: Files + AllocGlobal + Print + Eprint + Threads + Wait + Clock + Sync>
             stores,
             log,
             early_grants,
-            complete,
+            demands,
+            form,
             context,
             progress,
         } => {
@@ -116,9 +117,10 @@ fn work<R: Files + AllocGlobal + Print + Eprint + Threads + Wait + Clock + Sync>
                 early_grants,
                 stores: stores_watched(stores),
                 log,
+                form,
             };
             let mut ticker = Ticker::new(rt, progress && is_terminal);
-            Ok(observe_file(rt, path, options, complete, context, &mut ticker)?)
+            Ok(observe_file(rt, path, options, demands, context, &mut ticker)?)
         }
         Job::Storm { path, seed, turns } => Ok(storm_file(rt, path, seed, turns)?),
         Job::Cover {

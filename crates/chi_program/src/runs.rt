@@ -5,7 +5,7 @@ ghost use Rattle.chi_program.specs.Stops.{storm_end};
 ghost use Rattle.chi_program.specs.Charts.{part_asked};
 
 use crate::inputs::{tell, tell_unread};
-use crate::looks::lacks_line;
+use crate::looks::{lacks_line, lacks_rows};
 use crate::options::RowRange;
 use crate::stops::End;
 use crate::suites::read_file;
@@ -14,6 +14,7 @@ use chi_flit::Line;
 use chi_replay::replay;
 use chi_script::{Fault, FileInput, MOST_CHECK_BYTES, MemoryInput, StandardOutput};
 use chi_storm::storm;
+use std::alloc::Global;
 use std::io;
 use std::rt::{Clock, Files};
 use std::sync::Wait;
@@ -41,6 +42,27 @@ pub(crate) fn part_of(line: Option<Line>, rows: RowRange) -> ChartPart
     }
 }
 
+/// Whether a part of a chart leaves rows out.
+fn has_some_rows(part: ChartPart) -> bool {
+    part.first > 1 || part.last < u64::MAX
+}
+
+/// What is told of a good file whose bytes these are, and that has nothing of this part of a chart: its line, or all of its
+/// rows, are beyond it. `None` where it has some, and of any other file.
+fn lack_of(alloc: Global, bytes: &[u8], part: ChartPart) -> Option<&'static str> {
+    if let Some(line) = part.line {
+        if let Ok(true) = lacks_line(alloc, bytes, line) {
+            return Some("chihome: the file has no such line");
+        }
+    }
+    if has_some_rows(part) {
+        if let Ok(true) = lacks_rows(alloc, bytes, part.first) {
+            return Some("chihome: the file has no such rows");
+        }
+    }
+    None
+}
+
 /// Writes this part of the chart of the file at the path to standard output.
 pub(crate) fn chart_file<R: Files + AllocGlobal + Print + Eprint>(
     rt: &R,
@@ -50,11 +72,9 @@ pub(crate) fn chart_file<R: Files + AllocGlobal + Print + Eprint>(
     let Some(bytes) = read_file(rt, path, MOST_CHECK_BYTES + 1)? else {
         return tell_unread(rt, path);
     };
-    if let Some(line) = part.line {
-        if let Ok(true) = lacks_line(rt.alloc(), &bytes, line) {
-            let _ = rt.eprintln("chihome: the file has no such line");
-            return Ok(End::Nothing);
-        }
+    if let Some(lack) = lack_of(rt.alloc(), &bytes, part) {
+        let _ = rt.eprintln(lack);
+        return Ok(End::Nothing);
     }
     let mut input = MemoryInput::new(&bytes, u64::MAX);
     let mut output = StandardOutput::new(io::writer(rt));

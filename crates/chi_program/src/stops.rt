@@ -78,9 +78,9 @@ pub(crate) enum End {
     Unexplained,
     /// Something is open at the end of a trace.
     Incomplete,
-    /// Nothing was compared or shown: no answer is wanted, there is no such line, or a trace is empty.
+    /// Nothing was compared, shown or judged: no answer is wanted, there is no such line, or a trace is empty.
     Nothing,
-    /// Fewer cells were reached than were asked for.
+    /// Less was done than was asked for: fewer cells were reached, or not all of a trace was judged.
     Few,
 }
 

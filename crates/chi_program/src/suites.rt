@@ -5,7 +5,7 @@ ghost use Rattle.chi_program.specs.Stops.{check_end, suite_stop, wanted_end};
 ghost use Rattle.chi_program.specs.Suites.{given_in};
 ghost use Rattle.chi_replay.specs.Suites.{given_of};
 
-use crate::inputs::{bytes_of, tell, tell_unread};
+use crate::inputs::{bytes_of, tell, tell_unread, tell_unread_file};
 use crate::looks::wants_answer;
 use crate::stops::End;
 use chi_replay::{SuiteFile, SuiteForm, check, check_suite};
@@ -32,7 +32,7 @@ pub(crate) fn check_files<R: Files + AllocGlobal + Print + Eprint>(
 /// Checks the file at the path, and writes to standard output what came of it.
 fn check_file<R: Files + AllocGlobal + Print + Eprint>(rt: &R, path: &str) -> Result<End, Fault> {
     let Some(bytes) = read_file(rt, path, MOST_CHECK_BYTES + 1)? else {
-        return tell_unread(rt, path);
+        return tell_unread_file(rt, path);
     };
     let mut input = MemoryInput::new(&bytes, u64::MAX);
     let mut output = StandardOutput::new(io::writer(rt));
@@ -150,6 +150,35 @@ pub(crate) fn suite_of<'a>(
     ensures { IfOk result (λ suite. map given_of suite.items ≡ map given_in files.now) }
 {
     Ok(files.iter().map(|file| file.lent()).collect(alloc)?)
+}
+
+/// Tells on standard error each of the files that can't be read, and why, where that is known; whether there is one.
+pub(crate) fn tell_unread_files<R: Files + AllocGlobal + Eprint>(
+    rt: &R,
+    files: &[ReadFile],
+) -> Result<bool, Fault> {
+    let mut some = false;
+    for file in files {
+        if file.bytes.is_none() {
+            tell_unread(rt, file.path)?;
+            some = true;
+        }
+    }
+    Ok(some)
+}
+
+/// The files that can be read, lent; `NoMemory` where memory runs out.
+pub(crate) fn readable_of<'a>(
+    alloc: Global,
+    files: &'a [ReadFile<'a>],
+) -> Result<Vec<SuiteFile<'a>>, Fault> {
+    let mut readable = Vec::new(alloc);
+    for file in files {
+        if file.bytes.is_some() {
+            readable.push(file.lent())?;
+        }
+    }
+    Ok(readable)
 }
 
 /// The end of a check of several files, of which this is the first fault, and all answers hold, or not.

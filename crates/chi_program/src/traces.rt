@@ -7,7 +7,7 @@ ghost use Rattle.chi_program.specs.Watches.{stores_watched, types_watched};
 use crate::inputs::{file_of, tell_unread};
 use crate::stops::End;
 use chi_explain::StoreListing;
-use chi_observe::{CreditTypes, ObserveOutcome, Progress, WatchOptions, observe};
+use chi_observe::{CreditTypes, Demands, ObserveOutcome, Progress, WatchOptions, observe};
 use chi_observer::Stores;
 use chi_resolution::{Options, Types};
 use chi_script::{Fault, FileInput, StandardOutput};
@@ -78,7 +78,7 @@ pub(crate) fn observe_file<R: Files + AllocGlobal + Print + Eprint, P: Progress>
     rt: &R,
     path: &str,
     options: WatchOptions,
-    complete: bool,
+    demands: Demands,
     context: u64,
     progress: &mut P,
 ) -> Result<End, Fault> {
@@ -94,7 +94,7 @@ pub(crate) fn observe_file<R: Files + AllocGlobal + Print + Eprint, P: Progress>
         &mut input,
         &mut output,
         options,
-        complete,
+        demands,
         context,
         progress,
     ) {
@@ -115,6 +115,8 @@ fn observe_end(outcome: ObserveOutcome) -> End
     match outcome {
         ObserveOutcome::Accepted(_) => End::Done,
         ObserveOutcome::Incomplete(_) => End::Incomplete,
+        ObserveOutcome::Partly(_) => End::Few,
+        ObserveOutcome::Unjudged(_) => End::Nothing,
         ObserveOutcome::Nothing => End::Nothing,
         ObserveOutcome::Faulty(_) => End::Unexplained,
         ObserveOutcome::Malformed(_) => End::Malformed,

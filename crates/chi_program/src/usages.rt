@@ -1,8 +1,5 @@
 //! How the commands are used, and which version this is.
 
-ghost use Rattle.std.specs.Prelude.{◌≡◌, option_map};
-ghost use Rattle.chi_program.specs.Usage.{all_lines, replay_lines, check_lines, chart_lines, storm_lines, explain_lines, observe_lines, cover_lines, draw_lines, usage_lines, version_lines, topic_named, topic_option, usage_text, version_text};
-
 use chi_script::is;
 
 /// What `usage` is asked about.
@@ -26,9 +23,7 @@ pub enum Topic {
 /// What is asked about where the word behind `usage` is this: all commands where there is none, and `None` where it names
 /// no command.
 /// Source: `docs/FORMATS.md`, "The program".
-pub fn topic_of(word: Option<&str>) -> Option<Topic>
-    ensures { result ≡ topic_option (option_map (λ word. word.now) word.entry) }
-{
+pub fn topic_of(word: Option<&str>) -> Option<Topic> {
     match word {
         None => Some(Topic::All),
         Some(word) => topic_named(word.as_bytes()),
@@ -36,10 +31,7 @@ pub fn topic_of(word: Option<&str>) -> Option<Topic>
 }
 
 /// The command of this name.
-#[tactic(auto, unfolding(crate::specs::Usage::topic_named))]
-fn topic_named(word: &[u8]) -> Option<Topic>
-    ensures { result ≡ topic_named word.now }
-{
+fn topic_named(word: &[u8]) -> Option<Topic> {
     if is(word, "replay") {
         Some(Topic::Replay)
     } else if is(word, "check") {
@@ -67,9 +59,7 @@ fn topic_named(word: &[u8]) -> Option<Topic>
 
 /// How the command is used, or all of them: the line of each, and of one alone its options too.
 /// Source: `docs/FORMATS.md`, "The program".
-pub fn usage(topic: Topic) -> &'static str
-    ensures { result.now ≡ usage_text topic }
-{
+pub fn usage(topic: Topic) -> &'static str {
     match topic {
         Topic::All => all_usage(),
         Topic::Replay => replay_usage(),
@@ -86,16 +76,13 @@ pub fn usage(topic: Topic) -> &'static str
 }
 
 /// All commands.
-#[tactic(auto, unfolding(crate::specs::Usage::all_lines))]
-fn all_usage() -> &'static str
-    ensures { result.now ≡ all_lines }
-{
+fn all_usage() -> &'static str {
     "chihome replay FILE\n\
      chihome check FILE.. [--tap]\n\
      chihome chart FILE [--line L] [--rows A-B]\n\
      chihome storm FILE [--seed N] [--turns N]\n\
      chihome explain FILE [--types two|four|any] [--stores hidden|listed] [--early-grants] [--complete] [--line ADDR]\n\
-     chihome observe FILE [--types two|four|any] [--stores hidden|listed] [--start empty|unknown] [--seen requesters|home] [--early-grants] [--complete] [--context N] [--progress]\n\
+     chihome observe FILE [--types two|four|any] [--stores hidden|listed] [--start empty|unknown] [--seen requesters|home] [--early-grants] [--complete] [--unjudged refused|allowed] [--opcodes issue-b|any] [--data listed|none] [--context N] [--progress]\n\
      chihome cover FILE.. [--missing] [--json] [--tsv] [--merge] [--at-least N]\n\
      chihome draw [--seed N] --commands M [--wild P] [--weights FILE] [--kinds LIST] [--drain] HEADER\n\
      chihome usage [COMMAND]\n\
@@ -103,29 +90,20 @@ fn all_usage() -> &'static str
 }
 
 /// How `replay` is used.
-#[tactic(auto, unfolding(crate::specs::Usage::replay_lines))]
-fn replay_usage() -> &'static str
-    ensures { result.now ≡ replay_lines }
-{
+fn replay_usage() -> &'static str {
     "chihome replay FILE\n\
      Runs the commands of a replay file, and prints the answer of each.\n"
 }
 
 /// How `check` is used.
-#[tactic(auto, unfolding(crate::specs::Usage::check_lines))]
-fn check_usage() -> &'static str
-    ensures { result.now ≡ check_lines }
-{
+fn check_usage() -> &'static str {
     "chihome check FILE.. [--tap]\n\
      Compares the answers of the commands of check files with those that are wanted.\n\
      \x20 --tap                by the Test Anything Protocol, a test point for each file\n"
 }
 
 /// How `chart` is used.
-#[tactic(auto, unfolding(crate::specs::Usage::chart_lines))]
-fn chart_usage() -> &'static str
-    ensures { result.now ≡ chart_lines }
-{
+fn chart_usage() -> &'static str {
     "chihome chart FILE [--line L] [--rows A-B]\n\
      Draws the message sequence chart of a replay or check file, as an SVG.\n\
      \x20 --line L             of line L alone, 0 to 63\n\
@@ -133,10 +111,7 @@ fn chart_usage() -> &'static str
 }
 
 /// How `storm` is used.
-#[tactic(auto, unfolding(crate::specs::Usage::storm_lines))]
-fn storm_usage() -> &'static str
-    ensures { result.now ≡ storm_lines }
-{
+fn storm_usage() -> &'static str {
     "chihome storm FILE [--seed N] [--turns N]\n\
      Runs the scripts of a storm file in threads.\n\
      \x20 --seed N             what the draws are made from; 1 where it isn't given\n\
@@ -144,10 +119,7 @@ fn storm_usage() -> &'static str
 }
 
 /// How `explain` is used.
-#[tactic(auto, unfolding(crate::specs::Usage::explain_lines))]
-fn explain_usage() -> &'static str
-    ensures { result.now ≡ explain_lines }
-{
+fn explain_usage() -> &'static str {
     "chihome explain FILE [--types two|four|any] [--stores hidden|listed] [--early-grants] [--complete] [--line ADDR]\n\
      Holds a trace against the model.\n\
      \x20 --types T            its types of credit; two where it isn't given\n\
@@ -158,11 +130,8 @@ fn explain_usage() -> &'static str
 }
 
 /// How `observe` is used.
-#[tactic(auto, unfolding(crate::specs::Usage::observe_lines))]
-fn observe_usage() -> &'static str
-    ensures { result.now ≡ observe_lines }
-{
-    "chihome observe FILE [--types two|four|any] [--stores hidden|listed] [--start empty|unknown] [--seen requesters|home] [--early-grants] [--complete] [--context N] [--progress]\n\
+fn observe_usage() -> &'static str {
+    "chihome observe FILE [--types two|four|any] [--stores hidden|listed] [--start empty|unknown] [--seen requesters|home] [--early-grants] [--complete] [--unjudged refused|allowed] [--opcodes issue-b|any] [--data listed|none] [--context N] [--progress]\n\
      Judges a trace, whatever its home and its caches are.\n\
      \x20 --types T            its types of credit; any where it isn't given\n\
      \x20 --stores S           hidden where not all stores are listed, as where it isn't given; listed where they are\n\
@@ -170,15 +139,15 @@ fn observe_usage() -> &'static str
      \x20 --seen S             where a cache's flits are seen: requesters, as where it isn't given, or home, where it receives them\n\
      \x20 --early-grants       a grant may come before its RetryAck\n\
      \x20 --complete           nothing may be open at its end\n\
+     \x20 --unjudged U         refused where all of it has to be judged, as where it isn't given; else allowed\n\
+     \x20 --opcodes O          issue-b, as where it isn't given, or any, where a design has opcodes of its own\n\
+     \x20 --data D             listed, as where it isn't given, or none, where each flit has - for its data\n\
      \x20 --context N          with a fault the last N flits of its line, 1 to 64\n\
      \x20 --progress           how far it has come, each second, where standard error is a terminal\n"
 }
 
 /// How `cover` is used.
-#[tactic(auto, unfolding(crate::specs::Usage::cover_lines))]
-fn cover_usage() -> &'static str
-    ensures { result.now ≡ cover_lines }
-{
+fn cover_usage() -> &'static str {
     "chihome cover FILE.. [--missing] [--json] [--tsv] [--merge] [--at-least N]\n\
      Counts the cells of the protocol's tables that the commands of replay and check files reach.\n\
      \x20 --missing            the cells alone that none reaches\n\
@@ -189,10 +158,7 @@ fn cover_usage() -> &'static str
 }
 
 /// How `draw` is used.
-#[tactic(auto, unfolding(crate::specs::Usage::draw_lines))]
-fn draw_usage() -> &'static str
-    ensures { result.now ≡ draw_lines }
-{
+fn draw_usage() -> &'static str {
     "chihome draw [--seed N] --commands M [--wild P] [--weights FILE] [--kinds LIST] [--drain] HEADER\n\
      Writes a check file with this header, of commands that are drawn at random.\n\
      \x20 --seed N             what the draws are made from; 1 where it isn't given\n\
@@ -204,28 +170,19 @@ fn draw_usage() -> &'static str
 }
 
 /// How `usage` is used.
-#[tactic(auto, unfolding(crate::specs::Usage::usage_lines))]
-fn usage_usage() -> &'static str
-    ensures { result.now ≡ usage_lines }
-{
+fn usage_usage() -> &'static str {
     "chihome usage [COMMAND]\n\
      Says how a command is used, or all of them.\n"
 }
 
 /// How `version` is used.
-#[tactic(auto, unfolding(crate::specs::Usage::version_lines))]
-fn version_usage() -> &'static str
-    ensures { result.now ≡ version_lines }
-{
+fn version_usage() -> &'static str {
     "chihome version\n\
      Says which version this is.\n"
 }
 
 /// The version of the program, as the file `VERSION` has it, and a line end.
 /// Source: `docs/FORMATS.md`, "The program".
-#[tactic(auto, unfolding(crate::specs::Usage::version_text))]
-pub fn version() -> &'static str
-    ensures { result.now ≡ version_text }
-{
+pub fn version() -> &'static str {
     "chihome 0.1.0\n"
 }

@@ -4,7 +4,7 @@ use Rattle.std.proofs.lemmas.List.{append-nil}
 use Rattle.chi_script.specs.Files.{lines_of}
 use Rattle.chi_script.proofs.LineLemmas.{parts_of}
 use Rattle.chi_trace.specs.declared.faults.TraceFault.{TraceFault}
-use Rattle.chi_trace.specs.declared.faults.TraceFault.TheVariants.{NoMemory, TooLarge, MissingNewline, FewWords, BadWord}
+use Rattle.chi_trace.specs.declared.faults.TraceFault.TheVariants.{NoMemory, TooLarge, Gzip, LongLine, MissingNewline, FewWords, BadWord}
 use Rattle.chi_trace.specs.declared.flits.Seen.{Seen}
 use Rattle.chi_trace.specs.Faults.{TraceFails}
 use Rattle.chi_trace.specs.Files.{◌>>=◌, flits_at, trace_flits, with_trace_line}
@@ -49,6 +49,8 @@ unfronted_is fault front (Err other) e = e
 unfronted : (fault : TraceFault) (front : List Seen) (read : Result (List Seen) TraceFault) → TraceFails fault (with_front front read) → TraceFails fault read
 unfronted NoMemory front read is = tt
 unfronted TooLarge front read is = unfronted_is TooLarge front read is
+unfronted Gzip front read is = unfronted_is Gzip front read is
+unfronted (LongLine line) front read is = unfronted_is (LongLine line) front read is
 unfronted (MissingNewline line) front read is = unfronted_is (MissingNewline line) front read is
 unfronted (FewWords line) front read is = unfronted_is (FewWords line) front read is
 unfronted (BadWord line column) front read is = unfronted_is (BadWord line column) front read is

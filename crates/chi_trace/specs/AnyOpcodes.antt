@@ -1,18 +1,20 @@
 -- The opcodes of a trace of any home and any caches, by their names: the profile's, and others (docs/TRACES.md, "Other
 -- opcodes").
-use Rattle.std.specs.Prelude.{ℕ, ◌==◌, ◌&&◌, ◌||◌, Bool, false, List, [], ◌∷◌, nat_le, Option, Some, None, if◌then◌else◌, codes, option_map}
-use Rattle.std.specs.List.{list_all}
-use Rattle.chi_script.specs.Words.{is_text}
+use Rattle.std.specs.Prelude.{ℕ, ◌==◌, ◌&&◌, Bool, false, List, ◌∷◌, Option, Some, None, if◌then◌else◌, codes, option_map}
+use Rattle.chi_script.specs.Words.{◌>>=◌, is_text}
 use Rattle.chi_trace.specs.declared.any_opcodes.AnyOpcode.{AnyOpcode}
 use Rattle.chi_trace.specs.declared.any_opcodes.AnyOpcode.TheVariants as any
 use Rattle.chi_trace.specs.declared.any_opcodes.OtherKind.{OtherKind}
 use Rattle.chi_trace.specs.declared.any_opcodes.OtherKind.TheVariants as kinds
 use Rattle.chi_trace.specs.declared.any_opcodes.OtherSnoop.{OtherSnoop}
 use Rattle.chi_trace.specs.declared.any_opcodes.OtherSnoop.TheVariants as snoops
+use Rattle.chi_trace.specs.declared.forms.Opcodes.{Opcodes}
 use Rattle.chi_trace.specs.declared.opcodes.Opcode.{Opcode}
 use Rattle.chi_trace.specs.declared.opcodes.TraceChannel.{TraceChannel}
 use Rattle.chi_trace.specs.declared.opcodes.TraceChannel.TheVariants as channels
+use Rattle.chi_trace.specs.declared.other_opcodes.OtherOpcode.{OtherOpcode}
 use Rattle.chi_trace.specs.Opcodes.{opcode_in}
+use Rattle.chi_trace.specs.OtherOpcodes.{unjudged_in}
 
 abbrev pub other_kind_text : OtherKind → List ℕ
 other_kind_text kinds.ReadClean = codes "ReadClean"
@@ -64,46 +66,35 @@ other_opcode channels.Dat word = other_data word
 other_opcode channels.Rsp word = None
 other_opcode channels.Cpu word = None
 
--- letters and digits, a capital first: what may be the name of an opcode
-abbrev pub is_between : ℕ → ℕ → ℕ → Bool
-is_between low high byte = nat_le low byte && nat_le byte high
-
-abbrev pub is_name_byte : ℕ → Bool
-is_name_byte byte = (is_between 65 90 byte || is_between 97 122 byte) || is_between 48 57 byte
-
-abbrev pub is_name : List ℕ → Bool
-is_name [] = false
-is_name (first ∷ rest) = is_between 65 90 first && list_all is_name_byte (first ∷ rest)
-
 -- an answer to a snoop: its name begins with Snp
 abbrev pub is_answer_name : List ℕ → Bool
 is_answer_name (a ∷ b ∷ c ∷ rest) = a == 83 && (b == 110 && c == 112)
 is_answer_name other = false
 
-abbrev pub unknown_reply : List ℕ → AnyOpcode
-unknown_reply word = if is_answer_name word then any.UnknownAnswer else any.UnknownReply
+abbrev pub unknown_reply : List ℕ → OtherOpcode → AnyOpcode
+unknown_reply word opcode = if is_answer_name word then any.UnknownAnswer opcode else any.UnknownReply opcode
 
-abbrev pub unknown_on : TraceChannel → List ℕ → Option AnyOpcode
-unknown_on channels.Req word = Some any.UnknownRequest
-unknown_on channels.Snp word = Some any.UnknownSnoop
-unknown_on channels.Rsp word = Some (unknown_reply word)
-unknown_on channels.Dat word = Some (unknown_reply word)
-unknown_on channels.Cpu word = None
+abbrev pub unknown_on : TraceChannel → List ℕ → OtherOpcode → Option AnyOpcode
+unknown_on channels.Req word opcode = Some (any.UnknownRequest opcode)
+unknown_on channels.Snp word opcode = Some (any.UnknownSnoop opcode)
+unknown_on channels.Rsp word opcode = Some (unknown_reply word opcode)
+unknown_on channels.Dat word opcode = Some (unknown_reply word opcode)
+unknown_on channels.Cpu word opcode = None
 
-abbrev pub unknown_opcode : TraceChannel → List ℕ → Option AnyOpcode
-unknown_opcode channel word = if is_name word then unknown_on channel word else None
+abbrev pub unknown_opcode : Opcodes → TraceChannel → List ℕ → Option AnyOpcode
+unknown_opcode opcodes channel word = unjudged_in opcodes channel word >>= unknown_on channel word
 
 abbrev pub first_of : Option AnyOpcode → Option AnyOpcode → Option AnyOpcode
 first_of None other = other
 first_of (Some opcode) other = Some opcode
 
-abbrev pub other_or_unknown : TraceChannel → List ℕ → Option AnyOpcode
-other_or_unknown channel word = first_of (other_opcode channel word) (unknown_opcode channel word)
+abbrev pub other_or_unknown : Opcodes → TraceChannel → List ℕ → Option AnyOpcode
+other_or_unknown opcodes channel word = first_of (other_opcode channel word) (unknown_opcode opcodes channel word)
 
--- an opcode of the profile, another one, or one that has no name here
+-- an opcode of the profile, another one, or one that isn't judged
 abbrev pub profile_or : Option Opcode → Option AnyOpcode → Option AnyOpcode
 profile_or (Some opcode) other = Some (any.Profile opcode)
 profile_or None other = other
 
-abbrev pub any_opcode_in : TraceChannel → List ℕ → Option AnyOpcode
-any_opcode_in channel word = profile_or (opcode_in channel word) (other_or_unknown channel word)
+abbrev pub any_opcode_in : Opcodes → TraceChannel → List ℕ → Option AnyOpcode
+any_opcode_in opcodes channel word = profile_or (opcode_in channel word) (other_or_unknown opcodes channel word)

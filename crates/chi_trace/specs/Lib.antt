@@ -4,6 +4,7 @@ pub mod Columns
 pub mod Fields
 pub mod Opcodes
 pub mod Flits
+pub mod OtherOpcodes
 pub mod AnyOpcodes
 pub mod AnyFlits
 pub mod Faults

@@ -1,10 +1,11 @@
 //! The opcodes of a trace of any home and any caches: the profile's, and others.
 
-ghost use Rattle.std.specs.List.{list_all};
 ghost use Rattle.std.specs.Prelude.{◌≡◌, Some};
-ghost use Rattle.chi_trace.specs.AnyOpcodes.{any_opcode_in, is_answer_name, is_between, is_name, is_name_byte, other_data, other_kind, other_kind_text, other_opcode, other_or_unknown, other_request, other_snoop, other_snoop_in, other_snoop_text, unknown_opcode, unknown_reply};
+ghost use Rattle.chi_trace.specs.AnyOpcodes.{any_opcode_in, is_answer_name, other_data, other_kind, other_kind_text, other_opcode, other_or_unknown, other_request, other_snoop, other_snoop_in, other_snoop_text, unknown_on, unknown_opcode, unknown_reply};
 
+use crate::forms::Opcodes;
 use crate::opcodes::{Opcode, TraceChannel, opcode_in};
+use crate::other_opcodes::{OtherOpcode, unjudged_in};
 use chi_script::is;
 use std::fmt;
 
@@ -53,64 +54,37 @@ pub enum AnyOpcode {
     /// A snoop.
     Snoop(OtherSnoop),
     NonCopyBackWrData,
-    /// A request of a kind that has no name here.
-    UnknownRequest,
-    /// A snoop that has none.
-    UnknownSnoop,
-    /// An answer to a snoop that has none: its name begins with `Snp`.
-    UnknownAnswer,
-    /// Another response, or other data, that have none.
-    UnknownReply,
+    /// A request that isn't judged.
+    UnknownRequest(OtherOpcode),
+    /// A snoop that isn't.
+    UnknownSnoop(OtherOpcode),
+    /// An answer to a snoop that isn't: its name begins with `Snp`.
+    UnknownAnswer(OtherOpcode),
+    /// Another response, or other data, that aren't.
+    UnknownReply(OtherOpcode),
 }
 
 /// The opcode of the channel that the word names.
-pub(crate) fn any_opcode_in(channel: TraceChannel, word: &[u8]) -> Option<AnyOpcode>
-    ensures { result ≡ any_opcode_in channel word.now }
+pub(crate) fn any_opcode_in(
+    opcodes: Opcodes,
+    channel: TraceChannel,
+    word: &[u8],
+) -> Option<AnyOpcode>
+    ensures { result ≡ any_opcode_in opcodes channel word.now }
 {
     match opcode_in(channel, word) {
         Some(opcode) => Some(AnyOpcode::Profile(opcode)),
-        None => other_or_unknown(channel, word),
+        None => other_or_unknown(opcodes, channel, word),
     }
 }
 
 /// The same of one that the profile hasn't.
-fn other_or_unknown(channel: TraceChannel, word: &[u8]) -> Option<AnyOpcode>
-    ensures { result ≡ other_or_unknown channel word.now }
+fn other_or_unknown(opcodes: Opcodes, channel: TraceChannel, word: &[u8]) -> Option<AnyOpcode>
+    ensures { result ≡ other_or_unknown opcodes channel word.now }
 {
     match other_opcode(channel, word) {
         Some(opcode) => Some(opcode),
-        None => unknown_opcode(channel, word),
-    }
-}
-
-/// Whether the byte is a letter or a digit.
-fn is_name_byte(byte: u8) -> bool
-    ensures { result ≡ is_name_byte byte }
-{
-    matches!(byte, b'A'..=b'Z' | b'a'..=b'z' | b'0'..=b'9')
-}
-
-/// Whether the byte is a capital.
-fn is_capital(byte: u8) -> bool
-    ensures { result ≡ is_between 65 90 byte }
-{
-    matches!(byte, b'A'..=b'Z')
-}
-
-/// Whether each byte is a letter or a digit.
-fn are_name_bytes(word: &[u8]) -> bool
-    ensures { result ≡ list_all is_name_byte word.now }
-{
-    word.iter().all(|byte| is_name_byte(*byte))
-}
-
-/// Whether the word may be an opcode's: letters and digits, a capital first.
-fn is_name(word: &[u8]) -> bool
-    ensures { result ≡ is_name word.now }
-{
-    match word {
-        [] => false,
-        [first, ..] => is_capital(*first) && are_name_bytes(word),
+        None => unknown_opcode(opcodes, channel, word),
     }
 }
 
@@ -124,31 +98,36 @@ fn is_answer_name(word: &[u8]) -> bool
     }
 }
 
-/// The opcode of a response, or of data, whose name isn't known here.
-fn unknown_reply(word: &[u8]) -> AnyOpcode
-    ensures { result ≡ unknown_reply word.now }
+/// A response, or data, of this opcode, which the word names.
+fn unknown_reply(word: &[u8], opcode: OtherOpcode) -> AnyOpcode
+    ensures { result ≡ unknown_reply word.now opcode }
 {
     if is_answer_name(word) {
-        AnyOpcode::UnknownAnswer
+        AnyOpcode::UnknownAnswer(opcode)
     } else {
-        AnyOpcode::UnknownReply
+        AnyOpcode::UnknownReply(opcode)
     }
 }
 
-/// The opcode of the channel that the word may name, and that isn't known here.
-fn unknown_opcode(channel: TraceChannel, word: &[u8]) -> Option<AnyOpcode>
-    ensures { result ≡ unknown_opcode channel word.now }
+/// What a line with this opcode, which the word names, is on the channel.
+fn unknown_on(channel: TraceChannel, word: &[u8], opcode: OtherOpcode) -> Option<AnyOpcode>
+    ensures { result ≡ unknown_on channel word.now opcode }
 {
-    if !is_name(word) {
-        return None;
-    }
     match channel {
-        TraceChannel::Req => Some(AnyOpcode::UnknownRequest),
-        TraceChannel::Snp => Some(AnyOpcode::UnknownSnoop),
-        TraceChannel::Rsp => Some(unknown_reply(word)),
-        TraceChannel::Dat => Some(unknown_reply(word)),
+        TraceChannel::Req => Some(AnyOpcode::UnknownRequest(opcode)),
+        TraceChannel::Snp => Some(AnyOpcode::UnknownSnoop(opcode)),
+        TraceChannel::Rsp => Some(unknown_reply(word, opcode)),
+        TraceChannel::Dat => Some(unknown_reply(word, opcode)),
         TraceChannel::Cpu => None,
     }
+}
+
+/// The opcode of the channel that the word names, and that isn't judged.
+fn unknown_opcode(opcodes: Opcodes, channel: TraceChannel, word: &[u8]) -> Option<AnyOpcode>
+    ensures { result ≡ unknown_opcode opcodes channel word.now }
+{
+    let opcode = unjudged_in(opcodes, channel, word)?;
+    unknown_on(channel, word, opcode)
 }
 
 /// The opcode of the channel that the word names and the profile hasn't.
@@ -282,10 +261,10 @@ impl fmt::Display for AnyOpcode {
             AnyOpcode::Request(kind) => write!(f, "{kind}"),
             AnyOpcode::Snoop(snoop) => write!(f, "{snoop}"),
             AnyOpcode::NonCopyBackWrData => f.write_str("NonCopyBackWrData"),
-            AnyOpcode::UnknownRequest => f.write_str("another request"),
-            AnyOpcode::UnknownSnoop => f.write_str("another snoop"),
-            AnyOpcode::UnknownAnswer => f.write_str("another answer"),
-            AnyOpcode::UnknownReply => f.write_str("another response"),
+            AnyOpcode::UnknownRequest(opcode) => write!(f, "{opcode}"),
+            AnyOpcode::UnknownSnoop(opcode) => write!(f, "{opcode}"),
+            AnyOpcode::UnknownAnswer(opcode) => write!(f, "{opcode}"),
+            AnyOpcode::UnknownReply(opcode) => write!(f, "{opcode}"),
         }
     }
 }

@@ -1,7 +1,8 @@
 //! The flit of any home or any cache that the columns of a line are.
 
 ghost use Rattle.std.specs.Prelude.{◌≡◌};
-ghost use Rattle.chi_trace.specs.AnyFlits.{any_comp_in, any_data_in, any_flit_by, any_opcode_of, any_seen_in, bare_comp_in, bare_data_in, named_dbid_in, other_request_in, other_snoop_flit, other_write_in, profile_in, unknown_answer_in, unknown_reply_in, unknown_request_in, unknown_snoop_in, whole_in};
+ghost use Rattle.std.specs.Option.{option_map};
+ghost use Rattle.chi_trace.specs.AnyFlits.{any_comp_in, any_data_in, any_flit_by, any_opcode_of, any_seen_in, bare_comp_in, bare_data_in, dataless_flit_by, formed_flit_by, named_dbid_in, other_request_in, other_snoop_flit, other_write_in, profile_in, unknown_answer_in, unknown_reply_in, unknown_request_in, unknown_snoop_in, unlisted_in, whole_in, with_payload, zeros_of};
 ghost use Rattle.chi_trace.specs.Columns.{row_of_columns};
 ghost use Rattle.chi_trace.specs.Fields.{is_dash};
 
@@ -10,15 +11,32 @@ use crate::any_opcodes::{AnyOpcode, OtherKind, OtherSnoop, any_opcode_in};
 use crate::columns::{Column, Columns};
 use crate::fields::{DbId, Resp, is_dash};
 use crate::flits::Flit;
+use crate::forms::{Listing, Opcodes, TraceForm};
 use crate::opcodes::{Opcode, channel_in};
+use crate::other_opcodes::OtherOpcode;
+
+/// What stands for the data of an opcode in a log that lists none; `None` where it has no data.
+fn zeros_of(opcode: AnyOpcode) -> Option<&'static str>
+    ensures { option_map (λ zeros. zeros.now) result ≡ zeros_of opcode }
+{
+    match opcode {
+        AnyOpcode::Profile(Opcode::CompData) => Some("0,0,0,0,0,0,0,0"),
+        AnyOpcode::Profile(Opcode::SnpRespData) => Some("0,0,0,0,0,0,0,0"),
+        AnyOpcode::Profile(Opcode::CopyBackWrData) => Some("0,0,0,0,0,0,0,0"),
+        AnyOpcode::NonCopyBackWrData => Some("0,0,0,0,0,0,0,0"),
+        AnyOpcode::Profile(Opcode::Load) => Some("0"),
+        AnyOpcode::Profile(Opcode::Store) => Some("0"),
+        _ => None,
+    }
+}
 
 impl Columns<'_> {
     /// The opcode that the columns name.
-    fn any_opcode(&self) -> Result<AnyOpcode, Column>
-        ensures { result ≡ any_opcode_of (row_of_columns self.now) }
+    fn any_opcode(&self, opcodes: Opcodes) -> Result<AnyOpcode, Column>
+        ensures { result ≡ any_opcode_of opcodes (row_of_columns self.now) }
     {
         let channel = channel_in(self.channel).ok_or(Column::Channel)?;
-        any_opcode_in(channel, self.opcode).ok_or(Column::Opcode)
+        any_opcode_in(opcodes, channel, self.opcode).ok_or(Column::Opcode)
     }
 
     fn other_request(&self, kind: OtherKind) -> Result<AnyFlit, Column>
@@ -126,25 +144,25 @@ impl Columns<'_> {
         }
     }
 
-    fn unknown_request(&self) -> Result<AnyFlit, Column>
-        ensures { result ≡ unknown_request_in (row_of_columns self.now) }
+    fn unknown_request(&self, opcode: OtherOpcode) -> Result<AnyFlit, Column>
+        ensures { result ≡ unknown_request_in opcode (row_of_columns self.now) }
     {
         let fields = self.request_fields()?;
-        Ok(AnyFlit::UnknownRequest(fields))
+        Ok(AnyFlit::UnknownRequest(opcode, fields))
     }
 
-    fn unknown_snoop(&self) -> Result<AnyFlit, Column>
-        ensures { result ≡ unknown_snoop_in (row_of_columns self.now) }
+    fn unknown_snoop(&self, opcode: OtherOpcode) -> Result<AnyFlit, Column>
+        ensures { result ≡ unknown_snoop_in opcode (row_of_columns self.now) }
     {
         let fields = self.snoop_fields()?;
-        Ok(AnyFlit::UnknownSnoop(fields))
+        Ok(AnyFlit::UnknownSnoop(opcode, fields))
     }
 
-    fn unknown_answer(&self) -> Result<AnyFlit, Column>
-        ensures { result ≡ unknown_answer_in (row_of_columns self.now) }
+    fn unknown_answer(&self, opcode: OtherOpcode) -> Result<AnyFlit, Column>
+        ensures { result ≡ unknown_answer_in opcode (row_of_columns self.now) }
     {
         let transaction = self.transaction()?;
-        Ok(AnyFlit::UnknownAnswer(transaction))
+        Ok(AnyFlit::UnknownAnswer(opcode, transaction))
     }
 
     /// The DBID, where it isn't left out.
@@ -158,12 +176,12 @@ impl Columns<'_> {
         Ok(Some(dbid))
     }
 
-    fn unknown_reply(&self) -> Result<AnyFlit, Column>
-        ensures { result ≡ unknown_reply_in (row_of_columns self.now) }
+    fn unknown_reply(&self, opcode: OtherOpcode) -> Result<AnyFlit, Column>
+        ensures { result ≡ unknown_reply_in opcode (row_of_columns self.now) }
     {
         let transaction = self.transaction()?;
         let dbid = self.named_dbid()?;
-        Ok(AnyFlit::UnknownReply(transaction, dbid))
+        Ok(AnyFlit::UnknownReply(opcode, transaction, dbid))
     }
 
     /// The flit of the opcode.
@@ -175,22 +193,63 @@ impl Columns<'_> {
             AnyOpcode::Request(kind) => self.other_request(kind),
             AnyOpcode::Snoop(snoop) => self.other_snoop(snoop),
             AnyOpcode::NonCopyBackWrData => self.other_write(),
-            AnyOpcode::UnknownRequest => self.unknown_request(),
-            AnyOpcode::UnknownSnoop => self.unknown_snoop(),
-            AnyOpcode::UnknownAnswer => self.unknown_answer(),
-            AnyOpcode::UnknownReply => self.unknown_reply(),
+            AnyOpcode::UnknownRequest(opcode) => self.unknown_request(opcode),
+            AnyOpcode::UnknownSnoop(opcode) => self.unknown_snoop(opcode),
+            AnyOpcode::UnknownAnswer(opcode) => self.unknown_answer(opcode),
+            AnyOpcode::UnknownReply(opcode) => self.unknown_reply(opcode),
+        }
+    }
+
+    /// The columns with other data.
+    fn with_payload(&self, payload: &'static str) -> Columns<'_>
+        ensures { row_of_columns result ≡ with_payload payload.now (row_of_columns self.now) }
+    {
+        let mut columns = *self;
+        columns.payload = payload.as_bytes();
+        columns
+    }
+
+    /// The flit of an opcode with data, which the log leaves out: these stand for them.
+    fn unlisted(&self, opcode: AnyOpcode, zeros: &'static str) -> Result<AnyFlit, Column>
+        ensures { result ≡ unlisted_in opcode zeros.now (row_of_columns self.now) }
+    {
+        let flit = self.with_payload(zeros).any_flit(opcode)?;
+        if is_dash(self.payload) {
+            Ok(flit)
+        } else {
+            Err(Column::Data)
+        }
+    }
+
+    /// The flit of the opcode in a log that lists no data.
+    fn dataless_flit(&self, opcode: AnyOpcode) -> Result<AnyFlit, Column>
+        ensures { result ≡ dataless_flit_by opcode (row_of_columns self.now) }
+    {
+        match zeros_of(opcode) {
+            Some(zeros) => self.unlisted(opcode, zeros),
+            None => self.any_flit(opcode),
+        }
+    }
+
+    /// The flit of the opcode in a log that lists data or none.
+    fn formed_flit(&self, listing: Listing, opcode: AnyOpcode) -> Result<AnyFlit, Column>
+        ensures { result ≡ formed_flit_by listing opcode (row_of_columns self.now) }
+    {
+        match listing {
+            Listing::Listed => self.any_flit(opcode),
+            Listing::None => self.dataless_flit(opcode),
         }
     }
 
     /// The flit that the columns of this line are, or the first column that is wrong: the channel, the
     /// opcode, and then the others in their order.
     #[tactic(auto, unfolding(crate::specs::AnyFlits::any_seen_in))]
-    pub(crate) fn any_seen(&self, line: usize) -> Result<AnySeen, Column>
-        ensures { result ≡ any_seen_in line (row_of_columns self.now) }
+    pub(crate) fn any_seen(&self, form: TraceForm, line: usize) -> Result<AnySeen, Column>
+        ensures { result ≡ any_seen_in form line (row_of_columns self.now) }
     {
-        let opcode = self.any_opcode()?;
+        let opcode = self.any_opcode(form.opcodes)?;
         let source = self.source()?;
-        let flit = self.any_flit(opcode)?;
+        let flit = self.formed_flit(form.listing, opcode)?;
         Ok(AnySeen { line, source, flit })
     }
 }

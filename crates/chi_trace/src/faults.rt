@@ -14,6 +14,10 @@ pub enum TraceFault {
     NoMemory,
     /// The file has more than `MOST_BYTES` bytes.
     TooLarge,
+    /// The bytes are those of a compressed file.
+    Gzip,
+    /// This line has more than `MOST_LINE_BYTES` bytes.
+    LongLine(usize),
     /// This line is the last and no line end follows it.
     MissingNewline(usize),
     /// This line has words, and fewer than eleven.

@@ -5,6 +5,7 @@ ghost use Rattle.chi_trace.specs.Malformed.{malformed_front};
 
 use crate::columns::Column;
 use crate::faults::TraceFault;
+use crate::forms::Listing;
 use chi_script::ShownWord;
 use std::fmt;
 
@@ -14,13 +15,14 @@ use std::fmt;
 pub struct MalformedFront(pub TraceFault);
 
 /// What was expected of the line with the fault. It prints behind the front: of a wrong word its column, the word, and
-/// what belongs there. `opcodes` is told of an opcode.
+/// what belongs there. `opcodes` is told of an opcode; `listing` is the log's, on which it rests what data are.
 /// Source: `docs/TRACES.md`, "What is printed".
 #[derive(Clone, Copy)]
 pub struct Expected<'a> {
     pub fault: TraceFault,
     pub line: &'a [u8],
     pub opcodes: &'static str,
+    pub listing: Listing,
 }
 
 /// A column, by its name at the head of a trace.
@@ -37,6 +39,10 @@ impl fmt::Display for MalformedFront {
         match self.0 {
             TraceFault::NoMemory => write!(f, "chihome: "),
             TraceFault::TooLarge => write!(f, "chihome: file too large"),
+            TraceFault::Gzip => write!(f, "chihome: is gzip: zcat FILE | chihome observe -"),
+            TraceFault::LongLine(line) => {
+                write!(f, "chihome: line {line}: longer than 4096 bytes")
+            }
             TraceFault::MissingNewline(line) => {
                 write!(f, "chihome: line {line}: missing newline")
             }
@@ -57,10 +63,14 @@ impl<'a> fmt::Display for Expected<'a> {
                     ColumnName(column),
                     ShownWord(word_at(self.line, place_of(column))),
                 );
-                let wanted = expected_in(column, channel_word(self.line), self.opcodes);
+                let wanted = self.wanted_in(column);
                 write!(f, "{name} {word}, expected {wanted}")
             }
-            TraceFault::NoMemory | TraceFault::TooLarge | TraceFault::MissingNewline(_) => Ok(()),
+            TraceFault::NoMemory
+            | TraceFault::TooLarge
+            | TraceFault::Gzip
+            | TraceFault::LongLine(_)
+            | TraceFault::MissingNewline(_) => Ok(()),
         }
     }
 }
@@ -100,20 +110,32 @@ fn place_of(column: Column) -> usize {
     }
 }
 
-/// What is expected in a column, behind this word in the first one; of an opcode these.
-fn expected_in(column: Column, channel: &[u8], opcodes: &'static str) -> &'static str {
-    match column {
-        Column::Channel => "REQ, SNP, RSP, DAT or CPU",
-        Column::Source | Column::Target | Column::Txn | Column::Dbid => {
-            "a hexadecimal number, ffff at most"
+impl Expected<'_> {
+    /// What is expected in a column.
+    fn wanted_in(&self, column: Column) -> &'static str {
+        match column {
+            Column::Channel => "REQ, SNP, RSP, DAT or CPU",
+            Column::Source | Column::Target | Column::Txn | Column::Dbid => {
+                "a hexadecimal number, ffff at most"
+            }
+            Column::Opcode => self.opcodes,
+            Column::Address => "a hexadecimal number of 64 bits",
+            Column::Resp => "I, SC, UC, UD, SD, I_PD, SC_PD, UC_PD, UD_PD or SD_PD",
+            Column::AllowRetry => "0 or 1",
+            Column::Pcrd => "a hexadecimal number, f at most",
+            Column::Data => self.wanted_data(),
         }
-        Column::Opcode => opcodes,
-        Column::Address => "a hexadecimal number of 64 bits",
-        Column::Resp => "I, SC, UC, UD, SD, I_PD, SC_PD, UC_PD, UD_PD or SD_PD",
-        Column::AllowRetry => "0 or 1",
-        Column::Pcrd => "a hexadecimal number, f at most",
-        Column::Data if matches!(channel, b"CPU") => "a hexadecimal number of 64 bits",
-        Column::Data => "eight hexadecimal words or x with commas between them, or 128 digits",
+    }
+
+    /// What is expected as data.
+    fn wanted_data(&self) -> &'static str {
+        match (self.listing, channel_word(self.line)) {
+            (Listing::None, _) => "-, as the log has no data",
+            (Listing::Listed, b"CPU") => "a hexadecimal number of 64 bits",
+            (Listing::Listed, _) => {
+                "eight hexadecimal words or x with commas between them, or 128 digits"
+            }
+        }
     }
 }
 
@@ -129,4 +151,10 @@ fn word_at(line: &[u8], place: usize) -> &[u8] {
 /// Source: `docs/TRACES.md`, "Traces".
 pub fn channel_word(line: &[u8]) -> &[u8] {
     word_at(line, 0)
+}
+
+/// The word of a line that names its opcode; empty where there is none.
+/// Source: `docs/TRACES.md`, "Traces".
+pub fn opcode_word(line: &[u8]) -> &[u8] {
+    word_at(line, place_of(Column::Opcode))
 }

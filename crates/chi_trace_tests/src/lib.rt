@@ -11,6 +11,8 @@ mod faults;
 #[cfg(test)]
 mod forgetting;
 #[cfg(test)]
+mod forms;
+#[cfg(test)]
 mod grammar;
 #[cfg(test)]
 mod ids;

@@ -10,7 +10,7 @@ use Rattle.chi_trace.specs.Files.{◌>>=◌, one_of, trace_flits}
 use Rattle.chi_trace.specs.Flits.{flit_at}
 use Rattle.chi_trace.specs.Words.{blank_words}
 use Rattle.chi_trace.specs.declared.faults.TraceFault.{TraceFault}
-use Rattle.chi_trace.specs.declared.faults.TraceFault.TheVariants.{NoMemory, TooLarge, MissingNewline, FewWords, BadWord}
+use Rattle.chi_trace.specs.declared.faults.TraceFault.TheVariants.{NoMemory, TooLarge, Gzip, LongLine, MissingNewline, FewWords, BadWord}
 use Rattle.chi_trace.specs.declared.flits.Seen.{Seen}
 use Rattle.chi_trace.proofs.FaultLemmas.{failed}
 use Rattle.chi_resolution.specs.Resolution.{IdOutcome, resolution_of, resolved_from, resolved_more}
@@ -132,6 +132,8 @@ err_alike options fault (Err told) given is e = let same : Err told ≡ Err faul
 pub fails_alike : (options : Options) (fault : TraceFault) (read : Result (List Seen) TraceFault) (given : Result ReadSoFar TraceFault) → ReadsLike options [] read given → TraceFails fault given → TraceFails fault read
 fails_alike options NoMemory read given is fails = tt
 fails_alike options TooLarge read given is fails = err_alike options TooLarge read given is fails
+fails_alike options Gzip read given is fails = err_alike options Gzip read given is fails
+fails_alike options (LongLine line) read given is fails = err_alike options (LongLine line) read given is fails
 fails_alike options (MissingNewline line) read given is fails = err_alike options (MissingNewline line) read given is fails
 fails_alike options (FewWords line) read given is fails = err_alike options (FewWords line) read given is fails
 fails_alike options (BadWord line column) read given is fails = err_alike options (BadWord line column) read given is fails

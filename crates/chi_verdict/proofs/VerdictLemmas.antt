@@ -8,7 +8,7 @@ use Rattle.chi_explain.specs.declared.observed.StoreListing.{StoreListing}
 use Rattle.chi_trace.specs.Faults.{TraceFails}
 use Rattle.chi_trace.specs.Files.{trace_of}
 use Rattle.chi_trace.specs.declared.faults.TraceFault.{TraceFault}
-use Rattle.chi_trace.specs.declared.faults.TraceFault.TheVariants.{NoMemory, TooLarge, MissingNewline, FewWords, BadWord}
+use Rattle.chi_trace.specs.declared.faults.TraceFault.TheVariants.{NoMemory, TooLarge, Gzip, LongLine, MissingNewline, FewWords, BadWord}
 use Rattle.chi_trace.specs.declared.fields.Address.{Address}
 use Rattle.chi_trace.specs.declared.flits.Seen.{Seen}
 use Rattle.chi_resolution.specs.Resolution.{resolution_of}
@@ -62,6 +62,8 @@ of_whole options asked (Some file) bytes outcome text same is = subst (λ (read 
 failed : (fault : TraceFault) (read : Result (List Seen) TraceFault) → TraceFails fault read → fault ≢ NoMemory → read ≡ Err fault
 failed NoMemory read fails other = absurd (other refl)
 failed TooLarge read fails other = fails
+failed Gzip read fails other = fails
+failed (LongLine line) read fails other = fails
 failed (MissingNewline line) read fails other = fails
 failed (FewWords line) read fails other = fails
 failed (BadWord line column) read fails other = fails

@@ -8,7 +8,7 @@ ghost use Rattle.chi_verdict.specs.Texts.{BeginsWith};
 use crate::names::{joined, kept};
 use chi_flit::NoMemory;
 use chi_script::line_at;
-use chi_trace::{Expected, MOST_BYTES, MalformedFront, TraceFault, channel_word};
+use chi_trace::{Expected, Listing, MOST_BYTES, MalformedFront, TraceFault, channel_word};
 use std::alloc::Allocator;
 use std::fmt::Write;
 
@@ -62,6 +62,8 @@ fn is_of_file(fault: TraceFault) -> bool
     match fault {
         TraceFault::NoMemory => false,
         TraceFault::TooLarge => true,
+        TraceFault::Gzip => true,
+        TraceFault::LongLine(_) => true,
         TraceFault::MissingNewline(_) => true,
         TraceFault::FewWords(_) => true,
         TraceFault::BadWord { .. } => true,
@@ -82,6 +84,7 @@ fn write_expected<A: Allocator>(
                 fault,
                 line,
                 opcodes,
+                listing: Listing::Listed,
             };
             kept(write!(text, "{expected}"))
         }
@@ -89,7 +92,10 @@ fn write_expected<A: Allocator>(
             text,
             ", expected {MOST_BYTES} bytes at most; a monitor takes flits without an end (docs/LIBRARY.md)"
         )),
-        TraceFault::NoMemory | TraceFault::MissingNewline(_) => Ok(()),
+        TraceFault::NoMemory
+        | TraceFault::Gzip
+        | TraceFault::LongLine(_)
+        | TraceFault::MissingNewline(_) => Ok(()),
     }
 }
 

@@ -20,7 +20,7 @@ returns-clause-err g c = unwritten _ _ _ _ c.write_report.result c.in_ok-report.
 
 pub returns-clause-front : goal.returns-clause-front
 returns-clause-front g c =
-    front_written c.args.options c.args.complete _ _ _ c.in_ok-report.report.outcome (string_bytes c.in_ok-report.report.text) c.write_report.result c.in_ok-report.ensures.told c.write_report.ensures.wellformed c.write_report.ensures.front
+    front_written c.args.options c.args.demands _ _ _ c.in_ok-report.report.outcome (string_bytes c.in_ok-report.report.text) c.write_report.result c.in_ok-report.ensures.told c.write_report.ensures.wellformed c.write_report.ensures.front
 
 pub returns-clause-kept : goal.returns-clause-kept
 returns-clause-kept g c = kept_otherwise _ c.write_report.result c.write_report.ensures.fault

@@ -12,6 +12,7 @@ returns g c =
     let ids : c.in_ok-ids.ids.entries ≡ w.ids.entries = c.in_ok-ids.ensures in
     let accounts : c.in_ok-accounts.accounts.entries ≡ w.accounts.entries = c.in_ok-accounts.ensures in
     let lines : lines_in c.in_ok-lines.lines.entries ≡ lines_in w.lines.entries = c.in_ok-lines.ensures in
+    let causes : c.in_ok-causes.causes.items ≡ w.causes.items = c.in_ok-causes.ensures ∙ c.deref-3.ensures.value in
     let named : c.in_ok-named.named.entries ≡ w.named.entries = c.in_ok-named.ensures in
     λ i. record {
       options = w.options;
@@ -21,6 +22,7 @@ returns g c =
       accounts = accounts i;
       lines = lines i;
       counts = w.counts;
+      causes = causes i;
       past = last_of w.last;
       named = named i;
     }

@@ -14,6 +14,7 @@ returns g c = λ i. record {
   accounts = c.new-4.ensures.empty i;
   lines = lines_in (c.new-5.ensures.empty i);
   counts = nothing_counted;
+  causes = c.new-7.ensures.items i;
   past = last_of (replicate 32 0);
-  named = c.new-7.ensures.empty i;
+  named = c.new-8.ensures.empty i;
 }

@@ -5,13 +5,14 @@ use Rattle.chi_observe.specs.Judges.{last_of}
 use Rattle.chi_observe.specs.LeftOver.{last_at, named_behind}
 use Rattle.chi_observe.specs.Lines.{lines_in}
 use Rattle.chi_observe.specs.Nodes.{is_node}
+use Rattle.chi_observe.specs.Watched.{counts_left_over}
 use Rattle.chi_observe.proofs.watch.Watch.take_left_over.Goals as goal
 
 pub returns : goal.returns
 returns g c =
     let w = c.args.self.now in
     let event = c.args.event.now in
-    let more : c.in-Some.flits ≡ w.counts.flits + 1 = search rules in
+    let more : c.in-Some.counts ≡ counts_left_over w.counts = search rules in
     let nodes : c.deref.result.now ≡ w.requesters.items = search rules in
     let place : c.place_of-place.result ≡ position (is_node event.sides.requester) w.requesters.items = c.place_of-place.ensures ∙ ap (λ (l : List NodeId). position (is_node event.sides.requester) l) nodes in
     let count : c.len-count.result ≡ length w.requesters.items = search rules in
@@ -25,7 +26,8 @@ returns g c =
       ids = w.ids.entries;
       accounts = w.accounts.entries;
       lines = lines_in w.lines.entries;
-      counts = record { flits = more i; accesses = w.counts.accesses; lines = w.counts.lines; aside = w.counts.aside; first_aside = w.counts.first_aside };
+      counts = more i;
+      causes = w.causes.items;
       past = past i;
       named = named i;
     }

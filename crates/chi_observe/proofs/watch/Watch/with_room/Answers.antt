@@ -14,6 +14,7 @@ returns g c = λ i. record {
   accounts = c.in_ok-accounts.ensures i;
   lines = lines_in (c.in_ok-lines.ensures i);
   counts = nothing_counted;
+  causes = c.in_ok-causes.ensures.items i;
   past = last_of (replicate 32 0);
   named = c.new.ensures.empty i;
 }

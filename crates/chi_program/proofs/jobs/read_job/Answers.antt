@@ -1,1 +1,0 @@
--- What the subcommand that was read asks for.

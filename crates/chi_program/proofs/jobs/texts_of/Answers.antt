@@ -1,8 +1,0 @@
--- What the getter reads, by the rows.
-use Rattle.std.proofs.Common.{◌∙◌}
-use Rattle.clap.specs.Words.{found_of}
-use Rattle.clap.proofs.WalkLemmas.{raw_values-rows}
-use Rattle.chi_program.proofs.jobs.texts_of.Goals as goal
-
-pub returns : goal.returns
-returns c = c.get_strs.ensures ∙ raw_values-rows (found_of c.args.matches.now) c.args.name.now
