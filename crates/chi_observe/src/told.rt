@@ -149,7 +149,7 @@ fn write_unjudged_lines<A: Allocator>(
     write_cut(text, counts.cut)
 }
 
-/// The same where something isn't.
+/// Puts all that isn't judged behind the text, where something isn't.
 pub(crate) fn write_unjudged<A: Allocator>(
     text: &mut String<A>,
     home: bool,
