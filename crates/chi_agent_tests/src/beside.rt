@@ -49,7 +49,7 @@ struct BareAgent<'k> {
 }
 
 impl<'k> BareAgent<'k> {
-    /// It begins the script.
+    /// An agent without a lock at the beginning of its script.
     fn new(
         rt: &impl Abort,
         alloc: Global,

@@ -157,7 +157,7 @@ fn order_at_line(refusal: Refusal, step: &Step) -> Option<&'static str> {
     if would_fit { Some("3 before 2") } else { None }
 }
 
-/// The same as the steps before show.
+/// Which refusal came before which other one, as the steps before show.
 fn order_by_past(refusal: Refusal, step: &Step, past: &Past) -> Option<&'static str> {
     if step.verb() == Verb::Resend && refusal == Refusal::WrongState {
         let credit = credit_type(step.config.profile(), step.scene?.pending?.kind);

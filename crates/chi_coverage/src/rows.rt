@@ -131,7 +131,7 @@ pub(crate) const ROWS: &[Row] = rows! {
     }
 };
 
-/// Those of them that no run is known to reach.
+/// The rows of cells that no run is known to reach.
 /// Source: `docs/DECISIONS.md`, "The suite".
 pub(crate) const UNREACHABLE: &[Row] = rows! {
     "Start" { ["Evict|WriteEvictFull", ": n is the owner"] }

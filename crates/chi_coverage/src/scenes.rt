@@ -35,7 +35,7 @@ pub(crate) fn scene_of(view: &Option<LineView>, agent: Option<Agent>) -> Option<
     }
 }
 
-/// The same where the line is there.
+/// What stands of an agent at this line; `None` of an agent above 7.
 fn scene_at(view: &LineView, agent: Agent) -> Option<Scene> {
     let place = usize::from(agent.0);
     if place >= 8 {

@@ -41,12 +41,12 @@ impl<A: Allocator + Copy> Tally<A> {
         self.add(text, 1)
     }
 
-    /// The same where the condition holds.
+    /// One more of the cell of this text, where the condition holds. Refused where the count is too large.
     pub(crate) fn reach_if(&mut self, holds: bool, text: &str) -> Result<(), NoMemory> {
         if holds { self.reach(text) } else { Ok(()) }
     }
 
-    /// The same where there is a text.
+    /// One more of the cell of this text, where there is one. Refused where the count is too large.
     pub(crate) fn reach_some(&mut self, text: Option<&str>) -> Result<(), NoMemory> {
         match text {
             Some(text) => self.reach(text),
