@@ -1,0 +1,46 @@
+//! Laws of the rules.
+
+ghost use Rattle.chi_copies.specs.Laws.{MeaningIsCoherent, MeaningIsClosed, MeaningLoosens, MeaningRewinds, EachIsInSome, CacheFlitsAreTaken, CacheFlitsLead, CacheFlitsKeepSound, MeaningComes, HomeFlitsKeepSound, HomeFlitsAreSafe, HomeFlitsLead, HomeFlitsArePossible, SafeFlitsAreTaken, MeaningComesByHome};
+ghost use Rattle.chi_copies.specs.Runs.{LegalIsAccepted, AcceptedIsLegal, AcceptedIsExact, AcceptedIsCoherent};
+
+/// The law that each world that the sets stand for is coherent, that hidden steps lead to just those that they stand for, and that
+/// each copy of a set is in some world.
+/// Source: `docs/COPIES.md`, "What is proved".
+pub fn meaning()
+    ensures coherent { MeaningIsCoherent }
+    ensures closed { MeaningIsClosed }
+    ensures loosens { MeaningLoosens }
+    ensures rewinds { MeaningRewinds }
+    ensures some { EachIsInSome }
+{}
+
+/// The law that a flit of a cache is taken where some world sends it, and leads to just the worlds that it leaves.
+/// Source: `docs/COPIES.md`, "What is proved".
+pub fn cache_flits()
+    ensures taken { CacheFlitsAreTaken }
+    ensures leads { CacheFlitsLead }
+    ensures sound { CacheFlitsKeepSound }
+    ensures comes { MeaningComes }
+{}
+
+/// The law that a flit of the home is taken exactly where it is safe in each world that it may be sent in, and leads to just the
+/// worlds that it leaves.
+/// Source: `docs/COPIES.md`, "What is proved".
+pub fn home_flits()
+    ensures sound { HomeFlitsKeepSound }
+    ensures safe { HomeFlitsAreSafe }
+    ensures leads { HomeFlitsLead }
+    ensures possible { HomeFlitsArePossible }
+    ensures taken { SafeFlitsAreTaken }
+    ensures comes { MeaningComesByHome }
+{}
+
+/// The law of whole traces, with the words of loads and stores: a trace is accepted exactly where it is legal, the worlds behind an
+/// accepted one are those that the sets stand for, and all of them are coherent.
+/// Source: `docs/COPIES.md`, "What is proved".
+pub fn traces()
+    ensures accepted { LegalIsAccepted }
+    ensures legal { AcceptedIsLegal }
+    ensures exact { AcceptedIsExact }
+    ensures coherent { AcceptedIsCoherent }
+{}
