@@ -42,7 +42,7 @@ def copied(folder, crates):
         shutil.copytree(TOP / it, folder / it, ignore=leave_out)
     for it in ("VERSION", "crates.txt"):
         shutil.copy(TOP / it, folder / it)
-    kept = {"build", "after-ci", "sources", "exports"}
+    kept = {"build", "link", "after-ci", "sources", "exports"}
     for path in (folder / "library").iterdir():
         if path.suffix not in (".c", ".h") and path.name not in kept:
             path.unlink()
