@@ -1,5 +1,5 @@
-# Completion of chihome's command line in bash: the commands, the options of each and their words, and files. The command
-# lines are those of docs/FORMATS.md, "The program", which library/install puts here.
+# Completion of chihome's command line in bash: the commands, the options of each and their words, and files. The lines of the
+# commands are those that the program says; library/completion puts them here.
 _chihome_files() {
     compopt -o filenames 2> /dev/null
     mapfile -t COMPREPLY < <(compgen -f -- "$1")
@@ -14,7 +14,8 @@ _chihome() {
     fi
     line=$(awk -v command="${COMP_WORDS[1]}" '$2 == command' <<< "$synopsis")
     # (what an option takes stands behind it: words in small letters with bars between them, or something in capitals)
-    words=$(sed -nE "s/.*\[$before ([^]]*)\].*/\1/p" <<< "$line")
+    words=
+    [[ $before != --* ]] || words=$(sed -nE "s/.*\[$before ([^]]*)\].*/\1/p" <<< "$line")
     case $words in
         '') ;;
         FILE) _chihome_files "$word"; return ;;
@@ -24,8 +25,11 @@ _chihome() {
     case $word in
         -*) mapfile -t COMPREPLY < <(compgen -W "$(grep -oE -e '--[a-z-]+' <<< "$line")" -- "$word") ;;
         *)
-            [[ $line == *"${COMP_WORDS[1]} FILE"* ]] || return
-            _chihome_files "$word"
+            if [[ $line == *'[COMMAND]'* ]]; then
+                mapfile -t COMPREPLY < <(compgen -W "$(awk '{ print $2 }' <<< "$synopsis")" -- "$word")
+            elif [[ $line == *"${COMP_WORDS[1]} FILE"* ]]; then
+                _chihome_files "$word"
+            fi
             ;;
     esac
 }
