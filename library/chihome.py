@@ -19,8 +19,8 @@ stands here is tested, not proved. A call that the model refuses raises the exce
 and then nothing has changed. A number that no call has a place for is answered as one outside its range: `OutOfRange`.
 
 The module needs Python 3.8 and libchihome.so, which it loads at the first opening: the file that the environment
-variable CHIHOME_LIBRARY names, or the one beside it, in the repository's `out`, or in the `lib` that it was installed
-with, or else the one that the system finds. The interpreter's lock is held during each call, so calls never overlap;
+variable CHIHOME_LIBRARY names, or the one beside it, in the repository's `out`, there in `tried-library`, where
+library/try leaves one without a proof, or in the `lib` that it was installed with, or else the one that the system finds. The interpreter's lock is held during each call, so calls never overlap;
 where Python has no such lock, the caller sees to that.
 """
 
@@ -765,7 +765,8 @@ def _places() -> List[Path]:
     """Where the library may be, the likeliest first."""
     here = Path(__file__).resolve().parent
     installed = here.parents[2] / "lib" if len(here.parents) > 2 else here
-    return [here / "libchihome.so", here.parent / "out" / "libchihome.so", installed / "libchihome.so"]
+    out = here.parent / "out"
+    return [it / "libchihome.so" for it in (here, out, out / "tried-library", installed)]
 
 
 def load_library(path: Optional[os.PathLike] = None) -> str:
