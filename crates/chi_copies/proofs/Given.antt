@@ -9,7 +9,7 @@ use Rattle.chi_observer.specs.Copies.{Copy, holds_data, is_unique, is_dirty, is_
 use Rattle.chi_observer.specs.Copies.Copy.{Invalid}
 use Rattle.chi_observer.specs.Rules.{are_hidden, is_resending, is_due, needs_alone, makes, settles, gives_copy, gives_data, due_granted, word_at}
 use Rattle.chi_copies.specs.Copies.{Held, Copies, shown_of, is_fresh, is_newer, beside, same_held, any_held, image, all_beside}
-use Rattle.chi_copies.specs.Rules.{may_store, may_hide, may_be_free, freed, stored_to, slips, granted, fills, shows, renews, is_reading}
+use Rattle.chi_copies.specs.Rules.{may_store, may_hide, may_be_free, freed, stored_to, slips, granted, fills, shows, renews, waits_without_news}
 use Rattle.chi_copies.specs.Worlds.{World, Words, Same, Shown, Gives, Informed, home_may, others_given, all_below}
 use Rattle.chi_copies.specs.Observed.{Observed, Sound, Meaning, has_news, is_storable, is_shown_dirty, no_words, any_of, got, given_of, is_beside, goes, fits_home, takes_home, given}
 use Rattle.chi_copies.specs.Laws.{HomeFlitsAreSafe, HomeFlitsLead}
@@ -196,7 +196,7 @@ module _ (o : Observed) (g : HomeFlit) (sound : Sound o) (low : g.agent.0 < 32) 
     pub clean_all : gives_copy g.grant ≡ true → (h k : Held) → S h ≡ true → S k ≡ true → is_dirty h.copy ≡ false → is_dirty k.copy ≡ false
     clean_all gives h k x y e = by_false (is_dirty k.copy) (λ z. either (is_shown_dirty k) (is_newer k) (dirty_so k z)
         (λ s. sym e ∙ sound.even n low k h y x s)
-        (λ w. sym (sound.seen n low (left (is_reading d) _ (gives_read g.grant d (o.public.snooped n) due h gives)) k y (sound.waits n low (turned _ (right (is_reading d) _ (gives_read g.grant d (o.public.snooped n) due h gives))) k y)) ∙ w))
+        (λ w. sym (sound.seen n low (left (waits_without_news d) _ (gives_read g.grant d (o.public.snooped n) due h gives)) k y (sound.waits n low (turned _ (right (waits_without_news d) _ (gives_read g.grant d (o.public.snooped n) due h gives))) k y)) ∙ w))
 
     pub fills_all : (h k : Held) → S h ≡ true → S k ≡ true → fills g.grant h ≡ true → fills g.grant k ≡ true
     fills_all h k x y e = both (gives_copy g.grant) _ (left (gives_copy g.grant) _ e) (flip _ (clean_all (left (gives_copy g.grant) _ e) h k x y (turned _ (right (gives_copy g.grant) _ e))))
@@ -297,11 +297,11 @@ module _ (o : Observed) (g : HomeFlit) (sound : Sound o) (low : g.agent.0 < 32) 
     even_else m e l h k x y s = by_truth (renews g.grant d) (λ r. no (sym (not_dirty h.copy (left (same h.copy Invalid) _ (given_none r m e l h x))) ∙ left (is_dirty h.copy) _ s))
         (λ r. sound.even m l h k (given_kept r m h x) (given_kept r m k y) s)
 
-    seen_at : is_reading (due_granted g.grant d) ≡ true → (k : Held) → got o g k ≡ true → k.cancelled ≡ false → is_newer k ≡ false
+    seen_at : waits_without_news (due_granted g.grant d) ≡ true → (k : Held) → got o g k ≡ true → k.cancelled ≡ false → is_newer k ≡ false
     seen_at r = got_each (λ k. k.cancelled ≡ false → is_newer k ≡ false) (λ h x. let e = still_reading g.grant d q is h r in
-        subst (λ k. k.cancelled ≡ false → is_newer k ≡ false) (sym (same_held_is (to h) h (right (is_reading d) _ e))) (sound.seen n low (left (is_reading d) _ e) h x))
+        subst (λ k. k.cancelled ≡ false → is_newer k ≡ false) (sym (same_held_is (to h) h (right (waits_without_news d) _ e))) (sound.seen n low (left (waits_without_news d) _ e) h x))
 
-    seen_else : (m : ℕ) → m ≢ n → m < 32 → is_reading (o.public.due m) ≡ true → (k : Held) → then_else m k ≡ true → k.cancelled ≡ false → is_newer k ≡ false
+    seen_else : (m : ℕ) → m ≢ n → m < 32 → waits_without_news (o.public.due m) ≡ true → (k : Held) → then_else m k ≡ true → k.cancelled ≡ false → is_newer k ≡ false
     seen_else m e l i k y c = by_truth (renews g.grant d) (λ r. not_newer k (turned _ (right (same k.copy Invalid) _ (given_none r m e l k y)))) (λ r. sound.seen m l i k (given_kept r m k y) c)
 
     waits_at : is_resending (due_granted g.grant d) ≡ false → (k : Held) → got o g k ≡ true → k.cancelled ≡ false
@@ -342,7 +342,7 @@ module _ (o : Observed) (g : HomeFlit) (sound : Sound o) (low : g.agent.0 < 32) 
       storable = λ i. everywhere (λ i D X. i < 32 → (h : Held) → X h ≡ true → h.stored ≡ true → is_storable h ≡ true) n (due_granted g.grant d) (got o g) o.public.due then_else (λ _. storable_at) storable_else i;
       known = λ i. everywhere (λ i D X. i < 32 → (h : Held) → X h ≡ true → is_fresh h ≡ true → (v : List ℕ) × ((given o g).home ≡ Some v)) n (due_granted g.grant d) (got o g) o.public.due then_else (λ _. known_at) known_else i;
       even = λ i. everywhere (λ i D X. i < 32 → (h k : Held) → X h ≡ true → X k ≡ true → is_shown_dirty h ≡ true → is_dirty k.copy ≡ true) n (due_granted g.grant d) (got o g) o.public.due then_else (λ _. even_at) even_else i;
-      seen = λ i. everywhere (λ i D X. i < 32 → is_reading D ≡ true → (h : Held) → X h ≡ true → h.cancelled ≡ false → is_newer h ≡ false) n (due_granted g.grant d) (got o g) o.public.due then_else (λ _. seen_at) seen_else i;
+      seen = λ i. everywhere (λ i D X. i < 32 → waits_without_news D ≡ true → (h : Held) → X h ≡ true → h.cancelled ≡ false → is_newer h ≡ false) n (due_granted g.grant d) (got o g) o.public.due then_else (λ _. seen_at) seen_else i;
       waits = λ i. everywhere (λ i D X. i < 32 → is_resending D ≡ false → (h : Held) → X h ≡ true → h.cancelled ≡ false) n (due_granted g.grant d) (got o g) o.public.due then_else (λ _. waits_at) (λ m _. waits_else m) i;
       alike = λ z i. everywhere (λ i D X. i < 32 → (h k : Held) → X h ≡ true → X k ≡ true → holds_data h.copy ≡ true → holds_data k.copy ≡ true → h.stored ≡ k.stored) n (due_granted g.grant d) (got o g) o.public.due then_else (λ _. alike_at z) (alike_else z) i;
     }

@@ -12,7 +12,7 @@ use Rattle.chi_observer.specs.declared.kinds.Snoop.TheVariants.{SnpOnce}
 use Rattle.chi_observer.specs.Copies.{holds_data, is_unique, is_dirty}
 use Rattle.chi_observer.specs.Rules.{is_completed, is_due, is_resending, needs_alone, makes, settles, gives_copy, due_granted}
 use Rattle.chi_copies.specs.Copies.{Held, is_lost, is_fresh, is_newer, same_held}
-use Rattle.chi_copies.specs.Rules.{may_store, granted, fills, shows, renews, is_reading}
+use Rattle.chi_copies.specs.Rules.{may_store, granted, fills, shows, renews, waits_without_news}
 use Rattle.chi_copies.specs.Observed.{is_shown_dirty}
 use Rattle.chi_copies.proofs.Finite.{no, left, right, implies, follow, turned, flip, all_forms, each_form, all_kinds, each_kind, all_helds, each_held}
 use Rattle.chi_copies.proofs.Rows.{is_sane, same_truth, same_truth_is}
@@ -130,8 +130,8 @@ module _ (g : Grant) (d : Due) (q : Option Snoop) (due : is_due g d q ≡ true) 
   fills_data h e = follow (fills g h) _ (each_gift (λ g d h. implies (fills g h) (holds_data (granted g d h).copy && (shows g h && not (renews g d)))) (λ x. refl) g d q due h) e
 
   -- data that leave a copy are a read's
-  pub gives_read : (h : Held) → gives_copy g ≡ true → (is_reading d && not (is_resending d)) ≡ true
-  gives_read h e = follow (gives_copy g) _ (each_gift (λ g d h. implies (gives_copy g) (is_reading d && not (is_resending d))) (λ x. refl) g d q due h) e
+  pub gives_read : (h : Held) → gives_copy g ≡ true → (waits_without_news d && not (is_resending d)) ≡ true
+  gives_read h e = follow (gives_copy g) _ (each_gift (λ g d h. implies (gives_copy g) (waits_without_news d && not (is_resending d))) (λ x. refl) g d q due h) e
 
   -- data that are neither given nor made were there
   pub kept_data : (h : Held) → (holds_data (granted g d h).copy && (not (fills g h) && not (makes g d))) ≡ true → holds_data h.copy ≡ true
@@ -153,8 +153,8 @@ module _ (g : Grant) (d : Due) (q : Option Snoop) (due : is_due g d q ≡ true) 
   lost_kept h e = turned _ (follow (renews g d) _ (each_gift (λ g d h. implies (renews g d) (not (is_lost (granted g d h)))) (λ x. refl) g d q due h) e)
 
   -- a request that is open, or was retried, was so before, and its copy is as it was
-  pub still_reading : (h : Held) → is_reading (due_granted g d) ≡ true → (is_reading d && same_held (granted g d h) h) ≡ true
-  still_reading h e = follow (is_reading (due_granted g d)) _ (each_gift (λ g d h. implies (is_reading (due_granted g d)) (is_reading d && same_held (granted g d h) h)) (λ x. refl) g d q due h) e
+  pub still_reading : (h : Held) → waits_without_news (due_granted g d) ≡ true → (waits_without_news d && same_held (granted g d h) h) ≡ true
+  still_reading h e = follow (waits_without_news (due_granted g d)) _ (each_gift (λ g d h. implies (waits_without_news (due_granted g d)) (waits_without_news d && same_held (granted g d h) h)) (λ x. refl) g d q due h) e
 
   pub still_waits : (h : Held) → is_resending (due_granted g d) ≡ false → is_resending d ≡ false
   still_waits h e = turned _ (follow (not (is_resending (due_granted g d))) _ (each_gift (λ g d h. implies (not (is_resending (due_granted g d))) (not (is_resending d))) (λ x. refl) g d q due h) (flip _ e))
@@ -164,10 +164,10 @@ module _ (g : Grant) (d : Due) (q : Option Snoop) (due : is_due g d q ≡ true) 
   store_before h e = follow (not (may_store (due_granted g d) (granted g d h))) _ (each_gift (λ g d h. implies (not (may_store (due_granted g d) (granted g d h))) (not (may_store d h))) (λ x. refl) g d q due h) e
 
   -- and a copy with newer words is left so
-  pub newer_behind : (h : Held) → (is_sane h && (is_newer h && (not (renews g d) && (implies (is_reading d) h.cancelled && implies (not (is_resending d)) (not h.cancelled))))) ≡ true
+  pub newer_behind : (h : Held) → (is_sane h && (is_newer h && (not (renews g d) && (implies (waits_without_news d) h.cancelled && implies (not (is_resending d)) (not h.cancelled))))) ≡ true
       → (is_newer (granted g d h) && implies (not (may_store d h)) (not (may_store (due_granted g d) (granted g d h)))) ≡ true
-  newer_behind h e = follow (is_sane h && (is_newer h && (not (renews g d) && (implies (is_reading d) h.cancelled && implies (not (is_resending d)) (not h.cancelled))))) _
-      (each_gift (λ g d h. implies (is_sane h && (is_newer h && (not (renews g d) && (implies (is_reading d) h.cancelled && implies (not (is_resending d)) (not h.cancelled)))))
+  newer_behind h e = follow (is_sane h && (is_newer h && (not (renews g d) && (implies (waits_without_news d) h.cancelled && implies (not (is_resending d)) (not h.cancelled))))) _
+      (each_gift (λ g d h. implies (is_sane h && (is_newer h && (not (renews g d) && (implies (waits_without_news d) h.cancelled && implies (not (is_resending d)) (not h.cancelled)))))
       (is_newer (granted g d h) && implies (not (may_store d h)) (not (may_store (due_granted g d) (granted g d h))))) (λ x. refl) g d q due h) e
 
   -- two copies of one set

@@ -375,7 +375,7 @@ module _ (o : Observed) (f : CacheFlit) (w w' : World) (sound : Sound o) (low : 
   home_then false t v e = same_trans _ _ _ send.home (same_trans _ _ _ (same_by _ _ (ap (λ (b : Bool). if b then word_at f.shown else w.home) t)) (m.home v e))
 
   -- where words are told they are the value
-  told_last : tells_words a ≡ true → Same w'.last (word_at f.shown)
+  pub told_last : tells_words a ≡ true → Same w'.last (word_at f.shown)
   told_last t = by_truth (has_data a)
       (λ e. same_trans _ _ _ (last_same (tells_no_store a own t) (turned _ (right (holds_data h.copy) _ (c.facts.has e))) (has_no_write a e)) (same_trans _ _ _ (same_sym _ _ (m.words n low (has_shown e))) (same_sym _ _ (send.shown e))))
       (λ e. let g : writes a ≡ true = or_second _ _ t e in

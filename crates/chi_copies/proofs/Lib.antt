@@ -18,3 +18,5 @@ mod Origin
 mod Kept
 mod Moments
 mod Runs
+mod Values
+mod Larger

@@ -7,7 +7,7 @@ use Rattle.chi_observer.specs.declared.flits.Stores.{Stores}
 use Rattle.chi_observer.specs.Copies.{holds_data, is_unique, is_dirty, is_clean, same}
 use Rattle.chi_observer.specs.Rules.{are_hidden, is_resending}
 use Rattle.chi_copies.specs.Copies.{Held, Copies, is_fresh, is_newer, beside, same_held, any_held, image}
-use Rattle.chi_copies.specs.Rules.{is_free, may_be_free, freed, stored_to, dropped, slips, is_reading}
+use Rattle.chi_copies.specs.Rules.{is_free, may_be_free, freed, stored_to, dropped, slips, waits_without_news}
 use Rattle.chi_copies.specs.Worlds.{World, put}
 use Rattle.chi_copies.specs.Observed.{Observed, Sound, Closed, Meaning, is_storable, is_shown_dirty, loose}
 use Rattle.chi_copies.specs.Laws.{MeaningLoosens}
@@ -91,7 +91,7 @@ slip_shown z d h k (Freed m e) f = subst (λ k. is_shown_dirty k ≡ true) (sym 
 slip_shown z d h k (Store m a u e) f = no (subst (λ k. is_shown_dirty k ≡ true) (sym e) f)
 slip_shown z d h k (Drop m c e) f = no (subst (λ k. is_shown_dirty k ≡ true) (sym e) f)
 
-reading_waits : (d : Due) → may_be_free d ≡ true → is_reading d ≡ true → is_resending d ≡ true
+reading_waits : (d : Due) → may_be_free d ≡ true → waits_without_news d ≡ true → is_resending d ≡ true
 reading_waits Nothing m r = no r
 reading_waits (Resending k) m r = refl
 reading_waits (Completion k) m r = no m
@@ -107,7 +107,7 @@ or_false : (c r : Bool) → c ≡ false → r ≡ false → (c || r) ≡ false
 or_false true r e g = e
 or_false false r e g = g
 
-pub slip_seen : (z : Stores) (d : Due) (h k : Held) → Slipped z d h k → is_reading d ≡ true → k.cancelled ≡ false → (h.cancelled ≡ false → is_newer h ≡ false) → is_newer k ≡ false
+pub slip_seen : (z : Stores) (d : Due) (h k : Held) → Slipped z d h k → waits_without_news d ≡ true → k.cancelled ≡ false → (h.cancelled ≡ false → is_newer h ≡ false) → is_newer k ≡ false
 slip_seen z d h k (Still e) r c f = subst (λ k. is_newer k ≡ false) e (f (ap (λ (k : Held). k.cancelled) e ∙ c))
 slip_seen z d h k (Freed m e) r c f = no (or_never h.cancelled (is_resending d) (reading_waits d m r) (ap (λ (k : Held). k.cancelled) e ∙ c))
 slip_seen z d h k (Store m a u e) r c f = no (or_never h.cancelled (is_resending d) (reading_waits d m r) (ap (λ (k : Held). k.cancelled) e ∙ c))

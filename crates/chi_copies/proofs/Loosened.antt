@@ -7,7 +7,7 @@ use Rattle.chi_observer.specs.declared.flits.Stores.{Stores}
 use Rattle.chi_observer.specs.Copies.{holds_data, is_unique, is_dirty, is_clean, same}
 use Rattle.chi_observer.specs.Rules.{are_hidden, is_resending}
 use Rattle.chi_copies.specs.Copies.{Held, Copies, is_fresh, is_newer, beside, same_held, any_held, image}
-use Rattle.chi_copies.specs.Rules.{is_free, may_be_free, freed, stored_to, dropped, slips, is_reading}
+use Rattle.chi_copies.specs.Rules.{is_free, may_be_free, freed, stored_to, dropped, slips, waits_without_news}
 use Rattle.chi_copies.specs.Worlds.{Public, World, Words, Same, Shown, put}
 use Rattle.chi_copies.specs.Observed.{Observed, Sound, Closed, Meaning, has_news, is_storable, is_shown_dirty, loose}
 use Rattle.chi_copies.proofs.Finite.{no, left, right, both, implies, follow, in_held, out_held, in_image}
@@ -58,7 +58,7 @@ module _ (n : ℕ) (o : Observed) (sound : Sound o) (low : n < 32) where
     known = one (λ m X. m < 32 → (h : Held) → X h ≡ true → is_fresh h ≡ true → (v : List ℕ) × (o.home ≡ Some v)) n T o.may
         (λ _ h e f. let x = slip_of n o h e in sound.known n low x.held x.has (slip_fresh z d x.held h x.how f)) (λ m _. sound.known m);
     even = one (λ m X. m < 32 → (h k : Held) → X h ≡ true → X k ≡ true → is_shown_dirty h ≡ true → is_dirty k.copy ≡ true) n T o.may (λ _. even_at) (λ m _. sound.even m);
-    seen = one (λ m X. m < 32 → is_reading (o.public.due m) ≡ true → (h : Held) → X h ≡ true → h.cancelled ≡ false → is_newer h ≡ false) n T o.may
+    seen = one (λ m X. m < 32 → waits_without_news (o.public.due m) ≡ true → (h : Held) → X h ≡ true → h.cancelled ≡ false → is_newer h ≡ false) n T o.may
         (λ _ r h e c. let x = slip_of n o h e in slip_seen z d x.held h x.how r c (sound.seen n low r x.held x.has)) (λ m _. sound.seen m);
     waits = one (λ m X. m < 32 → is_resending (o.public.due m) ≡ false → (h : Held) → X h ≡ true → h.cancelled ≡ false) n T o.may
         (λ _ r h e. let x = slip_of n o h e in slip_waits z d x.held h x.how r (sound.waits n low r x.held x.has)) (λ m _. sound.waits m);

@@ -12,7 +12,7 @@ use Rattle.chi_observer.specs.declared.flits.CacheFlit.{CacheFlit}
 use Rattle.chi_observer.specs.Copies.{holds_data, is_unique, is_dirty, is_clean}
 use Rattle.chi_observer.specs.Rules.{are_hidden, is_resending, same_kind, gives_up, has_data, writes, tells_words, looks, is_request, lets_go, due_after, word_at, allows, is_acknowledging, is_copy_back, is_whole_write}
 use Rattle.chi_copies.specs.Copies.{Held, Copies, shown_of, is_fresh, is_newer, beside, leaves, same_held, any_bool, any_held, image}
-use Rattle.chi_copies.specs.Rules.{is_free, may_store, may_hide, is_resent, is_due_data, lets, row, acts, loses, is_read, is_reading, slips, freed, dropped, stored_to}
+use Rattle.chi_copies.specs.Rules.{is_free, may_store, may_hide, is_resent, is_due_data, lets, row, acts, loses, is_without_news, waits_without_news, slips, freed, dropped, stored_to}
 use Rattle.chi_copies.specs.Worlds.{Public, put, is_placed, others_then}
 use Rattle.chi_copies.specs.Observed.{Observed, Sound, Closed, is_storable, is_shown_dirty, known_of, may_own, fits_each, sends, sent, takes, shown_all, moved, next}
 use Rattle.chi_copies.specs.Laws.{CacheFlitsKeepSound}
@@ -74,7 +74,7 @@ own_listed z NonCopyBackWrData k own d h l e g = e
 own_listed z (Store word) k own d h l e g = e
 
 -- WHAT IS DUE THEN
-pub reading_stores : (d : Due) (h : Held) → is_reading d ≡ true → may_store d h ≡ true → h.cancelled ≡ true
+pub reading_stores : (d : Due) (h : Held) → waits_without_news d ≡ true → may_store d h ≡ true → h.cancelled ≡ true
 reading_stores Nothing h r e = no r
 reading_stores (Resending k) h r e = e
 reading_stores (Completion k) h r e = no e
@@ -82,13 +82,13 @@ reading_stores (SureCompletion k) h r e = no e
 reading_stores (WriteData k) h r e = no r
 reading_stores Acknowledgement h r e = no r
 
-same_read : all_kinds (λ k. all_kinds (λ q. implies (same_kind k q) (implies (is_read k) (is_read q)))) ≡ true
+same_read : all_kinds (λ k. all_kinds (λ q. implies (same_kind k q) (implies (is_without_news k) (is_without_news q)))) ≡ true
 same_read = refl
 
-read_alike : (k q : Kind) → same_kind k q ≡ true → is_read k ≡ true → is_read q ≡ true
-read_alike k q s r = follow (is_read k) (is_read q) (follow (same_kind k q) _ (each_kind (λ q. implies (same_kind k q) (implies (is_read k) (is_read q))) (each_kind (λ k. all_kinds (λ q. implies (same_kind k q) (implies (is_read k) (is_read q)))) same_read k) q) s) r
+read_alike : (k q : Kind) → same_kind k q ≡ true → is_without_news k ≡ true → is_without_news q ≡ true
+read_alike k q s r = follow (is_without_news k) (is_without_news q) (follow (same_kind k q) _ (each_kind (λ q. implies (same_kind k q) (implies (is_without_news k) (is_without_news q))) (each_kind (λ k. all_kinds (λ q. implies (same_kind k q) (implies (is_without_news k) (is_without_news q)))) same_read k) q) s) r
 
-resent_reading : (k : Kind) (d : Due) → is_resent k d ≡ true → is_read k ≡ true → is_reading d ≡ true
+resent_reading : (k : Kind) (d : Due) → is_resent k d ≡ true → is_without_news k ≡ true → waits_without_news d ≡ true
 resent_reading k (Resending q) e r = read_alike k q e r
 resent_reading k Nothing e r = no e
 resent_reading k (Completion q) e r = no e
@@ -96,7 +96,7 @@ resent_reading k (SureCompletion q) e r = no e
 resent_reading k (WriteData q) e r = no e
 resent_reading k Acknowledgement e r = no e
 
-cancelled_by : (z : Stores) (d : Due) (h : Held) → is_reading d ≡ true → may_hide z d h ≡ true → h.cancelled ≡ true
+cancelled_by : (z : Stores) (d : Due) (h : Held) → waits_without_news d ≡ true → may_hide z d h ≡ true → h.cancelled ≡ true
 cancelled_by z d h r e = reading_stores d h r (right (are_hidden z) _ e)
 
 same_newer : (h k : Held) → Some h ≡ Some k → is_newer h ≡ false → is_newer k ≡ false
@@ -109,7 +109,7 @@ not_newer true false f e = no (f refl)
 
 -- no newer copy has a read that is open
 pub sent_seen : (z : Stores) (a : Act) (own x up : Bool) (d : Due) (h k : Held) → lets z a own d h ≡ true → row a own x up h ≡ Some k → RowFacts a own x h k
-    → is_reading (due_after a d) ≡ true → k.cancelled ≡ false → (is_reading d ≡ true → h.cancelled ≡ false → is_newer h ≡ false) → is_newer k ≡ false
+    → waits_without_news (due_after a d) ≡ true → k.cancelled ≡ false → (waits_without_news d ≡ true → h.cancelled ≡ false → is_newer h ≡ false) → is_newer k ≡ false
 sent_seen z (Request kind) own x up d h k l e facts r c f = turned _ (facts.read r)
 sent_seen z (Resend kind) own x up d h k l e facts r c f = same_newer h k e (f (resent_reading kind d (left _ _ l) r) (sym (facts.cancelled refl) ∙ c))
 sent_seen z (SnpResp answer) own x up d h k l e facts r c f = turned _ (facts.given refl)
@@ -328,7 +328,7 @@ module _ (o : Observed) (f : CacheFlit) (sound : Sound o) (low : f.agent.0 < 32)
           (λ _ h e s. let c = came h e in some_home (tells_words a) f.shown o.home (λ w. sound.known n low c.held c.has (c.facts.fresh (both (is_fresh h) _ s (flip _ w)))))
           (λ m _ l h e s. let u = other_of o f m h e in some_home (tells_words a) f.shown o.home (λ w. sound.known m l u.held u.has (fresh_if (tells_words a) u.held w (subst (λ h. is_fresh h ≡ true) (sym u.is) s))));
       even = one (λ m X. m < 32 → (h k : Held) → X h ≡ true → X k ≡ true → is_shown_dirty h ≡ true → is_dirty k.copy ≡ true) n (sent o f) (others_after o f) (λ _. even_at) even_else;
-      seen = everywhere (λ m d X. m < 32 → is_reading d ≡ true → (h : Held) → X h ≡ true → h.cancelled ≡ false → is_newer h ≡ false) n (due_after a d) (sent o f) o.public.due (others_after o f)
+      seen = everywhere (λ m d X. m < 32 → waits_without_news d ≡ true → (h : Held) → X h ≡ true → h.cancelled ≡ false → is_newer h ≡ false) n (due_after a d) (sent o f) o.public.due (others_after o f)
           (λ _ r h e c. let y = came h e in sent_seen z a y.by.own x up d y.held h y.by.let_go y.by.row y.facts r c (λ r. sound.seen n low r y.held y.has))
           (λ m _ l r h e c. let u = other_of o f m h e in subst (λ h. is_newer h ≡ false) u.is (newer_if (tells_words a) u.held (sound.seen m l r u.held u.has (sym (cancelled_if (tells_words a) u.held) ∙ ap (λ (k : Held). k.cancelled) u.is ∙ c))));
       waits = everywhere (λ m d X. m < 32 → is_resending d ≡ false → (h : Held) → X h ≡ true → h.cancelled ≡ false) n (due_after a d) (sent o f) o.public.due (others_after o f)

@@ -8,7 +8,7 @@ use Rattle.chi_observer.specs.declared.flits.HomeFlit.{HomeFlit}
 use Rattle.chi_observer.specs.Copies.{holds_data, is_unique}
 use Rattle.chi_observer.specs.Rules.{are_hidden, is_resending, is_due, needs_alone, makes, settles, due_granted, word_at}
 use Rattle.chi_copies.specs.Copies.{Held, Copies, is_newer, same_held}
-use Rattle.chi_copies.specs.Rules.{may_store, may_hide, granted, fills, shows, renews, is_reading}
+use Rattle.chi_copies.specs.Rules.{may_store, may_hide, granted, fills, shows, renews, waits_without_news}
 use Rattle.chi_copies.specs.Worlds.{World, Words, Same, Shown, Gives, Informed, others_given, put}
 use Rattle.chi_copies.specs.Observed.{Observed, Sound, Meaning, has_news, no_words, any_of, got, given_of, fits_home, takes_home, given}
 use Rattle.chi_copies.specs.Laws.{MeaningComesByHome}
@@ -131,9 +131,9 @@ module _ (o : Observed) (g : HomeFlit) (sound : Sound o) (low : g.agent.0 < 32) 
   news_at : renews g.grant d ≡ false → (k : Held) → S k ≡ true → has_news o.public n k ≡ true → (is_newer (to k) && not (may_hide z (due_granted g.grant d) (to k))) ≡ true
   news_at r k x e =
       let newer : is_newer k ≡ true = left (is_newer k) _ e in
-      let reads : implies (is_reading d) k.cancelled ≡ true = implied (is_reading d) k.cancelled (λ i. by_truth k.cancelled (λ c. c) (λ c. no (sym (sound.seen n low i k x c) ∙ newer))) in
+      let reads : implies (waits_without_news d) k.cancelled ≡ true = implied (waits_without_news d) k.cancelled (λ i. by_truth k.cancelled (λ c. c) (λ c. no (sym (sound.seen n low i k x c) ∙ newer))) in
       let waits : implies (not (is_resending d)) (not k.cancelled) ≡ true = implied (not (is_resending d)) (not k.cancelled) (λ i. flip _ (sound.waits n low (turned _ i) k x)) in
-      let facts = newer_behind g.grant d q is k (both (is_sane k) _ (sane o sound n low k x) (both (is_newer k) _ newer (both (not (renews g.grant d)) _ (flip _ r) (both (implies (is_reading d) k.cancelled) _ reads waits)))) in
+      let facts = newer_behind g.grant d q is k (both (is_sane k) _ (sane o sound n low k x) (both (is_newer k) _ newer (both (not (renews g.grant d)) _ (flip _ r) (both (implies (waits_without_news d) k.cancelled) _ reads waits)))) in
       both (is_newer (to k)) _ (left (is_newer (to k)) _ facts)
       (unhide (are_hidden z) (may_store d k) (may_store (due_granted g.grant d) (to k)) (follow (not (may_store d k)) _ (right (is_newer (to k)) _ facts)) (right (is_newer k) _ e))
 

@@ -12,7 +12,7 @@ use Rattle.chi_observer.specs.declared.flits.Act.TheVariants.{Request, Resend, S
 use Rattle.chi_observer.specs.Copies.{Copy, holds_data, is_unique, is_dirty, is_clean, same, compatible}
 use Rattle.chi_observer.specs.Rules.{gives_up, has_data, writes, tells_words, looks, is_request, stores}
 use Rattle.chi_copies.specs.Copies.{Held, shown_of, is_lost, is_fresh, is_newer, beside, alike, same_held, leaves}
-use Rattle.chi_copies.specs.Rules.{is_due_data, is_read, stored_to, lets, row, acts, loses}
+use Rattle.chi_copies.specs.Rules.{is_due_data, is_without_news, stored_to, lets, row, acts, loses}
 use Rattle.chi_copies.specs.Worlds.{others_then, makes_value}
 use Rattle.chi_copies.specs.Observed.{is_storable, is_shown_dirty}
 use Rattle.chi_copies.proofs.Finite.{no, left, right, both, implies, follow, all_bools, each_bool, all_forms, each_form, all_kinds, each_kind, all_answers, each_answer, all_helds, each_held}
@@ -132,9 +132,9 @@ gives_away (CopyBackWrData form) = true
 gives_away NonCopyBackWrData = true
 gives_away other = false
 
-abbrev pub is_read_row : Act → Bool
-is_read_row (Request kind) = is_read kind
-is_read_row other = false
+abbrev pub is_row_without_news : Act → Bool
+is_row_without_news (Request kind) = is_without_news kind
+is_row_without_news other = false
 
 abbrev pub row_fits : Act → Bool → Bool → Held → Held → Bool
 row_fits a own x h k = is_sane k
@@ -144,7 +144,7 @@ row_fits a own x h k = is_sane k
     && (implies (has_data a) (holds_data h.copy && not (loses a x h))
     && (implies (tells_words a) (not k.stored)
     && (implies (is_store_row a own) (is_unique h.copy && same_held (stored_to h) k)
-    && (implies (is_read_row a) (not (is_newer k))
+    && (implies (is_row_without_news a) (not (is_newer k))
     && (implies (loses a x h) (k.stored && not (holds_data k.copy))
     && (implies (not (tells_words a) && not (is_store_row a own)) (same_truth k.stored h.stored)
     && (implies (looks a) (holds_data h.copy)
@@ -254,7 +254,7 @@ pub record RowFacts (a : Act) (own x : Bool) (h k : Held) : Type 0 where
   pub has : has_data a ≡ true → (holds_data h.copy && not (loses a x h)) ≡ true
   pub tells : tells_words a ≡ true → not k.stored ≡ true
   pub stored : is_store_row a own ≡ true → (is_unique h.copy && same_held (stored_to h) k) ≡ true
-  pub read : is_read_row a ≡ true → not (is_newer k) ≡ true
+  pub read : is_row_without_news a ≡ true → not (is_newer k) ≡ true
   pub lost : loses a x h ≡ true → (k.stored && not (holds_data k.copy)) ≡ true
   pub marked : (not (tells_words a) && not (is_store_row a own)) ≡ true → k.stored ≡ h.stored
   pub looked : looks a ≡ true → holds_data h.copy ≡ true

@@ -4,4 +4,6 @@ pub mod Worlds
 pub mod Observed
 pub mod Moments
 pub mod Runs
+pub mod Values
+pub mod Above
 pub mod Laws

@@ -11,7 +11,7 @@ use Rattle.chi_observer.specs.Copies.{holds_data, is_unique, is_dirty, same}
 use Rattle.chi_observer.specs.Copies.Copy.{Invalid, UniqueDirty}
 use Rattle.chi_observer.specs.Rules.{word_at, has_data, tells_words, looks, is_request, lets_go, needs_alone, makes, allows, are_hidden, is_resending}
 use Rattle.chi_copies.specs.Copies.{Held, Copies, shown_of, is_fresh, is_newer, beside, leaves, same_held, any_bool, any_held, image, all_beside}
-use Rattle.chi_copies.specs.Rules.{may_hide, acts, slips, granted, fills, shows, renews, is_reading}
+use Rattle.chi_copies.specs.Rules.{may_hide, acts, slips, granted, fills, shows, renews, waits_without_news}
 use Rattle.chi_copies.specs.Worlds.{Public, World, Words, Same, Shown, home_may, all_below, put, is_placed, others_then, others_given, public_after, public_granted}
 
 -- what flits say by themselves; what each copy may be, behind hidden steps; the home's words, where flits have shown them; and the
@@ -51,7 +51,7 @@ pub record Sound (o : Observed) : Type 0 where
   pub known : (n : ℕ) → n < 32 → (h : Held) → o.may n h ≡ true → is_fresh h ≡ true → (v : List ℕ) × (o.home ≡ Some v)
   -- what fills one copy of a set fills each
   pub even : (n : ℕ) → n < 32 → (h k : Held) → o.may n h ≡ true → o.may n k ≡ true → is_shown_dirty h ≡ true → is_dirty k.copy ≡ true
-  pub seen : (n : ℕ) → n < 32 → is_reading (o.public.due n) ≡ true → (h : Held) → o.may n h ≡ true → h.cancelled ≡ false → is_newer h ≡ false
+  pub seen : (n : ℕ) → n < 32 → waits_without_news (o.public.due n) ≡ true → (h : Held) → o.may n h ≡ true → h.cancelled ≡ false → is_newer h ≡ false
   pub waits : (n : ℕ) → n < 32 → is_resending (o.public.due n) ≡ false → (h : Held) → o.may n h ≡ true → h.cancelled ≡ false
   -- where all stores are listed it is known whether a copy with data was stored to
   pub alike : are_hidden o.public.stores ≡ false → (n : ℕ) → n < 32 → (h k : Held) → o.may n h ≡ true → o.may n k ≡ true → holds_data h.copy ≡ true → holds_data k.copy ≡ true → h.stored ≡ k.stored

@@ -107,10 +107,10 @@ abbrev pub renews : Grant → Due → Bool
 renews g d = makes g d || settles g d
 
 -- a request that no copy with newer words is sent from: each but those that write dirty data
-abbrev pub is_read : Kind → Bool
-is_read WriteBackFull = false
-is_read WriteCleanFull = false
-is_read other = true
+abbrev pub is_without_news : Kind → Bool
+is_without_news WriteBackFull = false
+is_without_news WriteCleanFull = false
+is_without_news other = true
 
-abbrev pub is_reading : Due → Bool
-is_reading d = is_open_of is_read d
+abbrev pub waits_without_news : Due → Bool
+waits_without_news d = is_open_of is_without_news d

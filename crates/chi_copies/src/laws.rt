@@ -2,6 +2,8 @@
 
 ghost use Rattle.chi_copies.specs.Laws.{MeaningIsCoherent, MeaningIsClosed, MeaningLoosens, MeaningRewinds, EachIsInSome, CacheFlitsAreTaken, CacheFlitsLead, CacheFlitsKeepSound, MeaningComes, HomeFlitsKeepSound, HomeFlitsAreSafe, HomeFlitsLead, HomeFlitsArePossible, SafeFlitsAreTaken, MeaningComesByHome};
 ghost use Rattle.chi_copies.specs.Runs.{LegalIsAccepted, AcceptedIsLegal, AcceptedIsExact, AcceptedIsCoherent};
+ghost use Rattle.chi_copies.specs.Values.{ReadOnceShowsValue};
+ghost use Rattle.chi_copies.specs.Above.{AboveTakes, StaysAbove, AboveMeansMore, SoundIsAbove, NothingIsAboveAll};
 
 /// The law that each world that the sets stand for is coherent, that hidden steps lead to just those that they stand for, and that
 /// each copy of a set is in some world.
@@ -36,11 +38,24 @@ pub fn home_flits()
 {}
 
 /// The law of whole traces, with the words of loads and stores: a trace is accepted exactly where it is legal, the worlds behind an
-/// accepted one are those that the sets stand for, and all of them are coherent.
+/// accepted one are those that the sets stand for, all of them are coherent, and the words that complete a ReadOnce were the value
+/// last stored right behind a flit since its issue.
 /// Source: `docs/COPIES.md`, "What is proved".
 pub fn traces()
     ensures accepted { LegalIsAccepted }
     ensures legal { AcceptedIsLegal }
     ensures exact { AcceptedIsExact }
     ensures coherent { AcceptedIsCoherent }
+    ensures values { ReadOnceShowsValue }
+{}
+
+/// The law that an observer that thinks more copies possible, and knows less of the words, takes each flit of a cache that another
+/// takes, and goes on to think so; so does one that knows nothing.
+/// Source: `docs/COPIES.md`, "What is proved".
+pub fn above()
+    ensures takes { AboveTakes }
+    ensures stays { StaysAbove }
+    ensures means { AboveMeansMore }
+    ensures sound { SoundIsAbove }
+    ensures nothing { NothingIsAboveAll }
 {}

@@ -6,4 +6,4 @@
 
 mod laws;
 
-pub use laws::{cache_flits, home_flits, meaning, traces};
+pub use laws::{above, cache_flits, home_flits, meaning, traces};
