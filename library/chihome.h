@@ -255,15 +255,6 @@ enum ChiResp {
     CHI_Resp_SD_PD = 9
 };
 
-/* What an open id is named by (docs/OBSERVER.md, "Ids and credits"). */
-enum ChiIdForm {
-    CHI_Id_None = 0,
-    CHI_Id_Request = 1, /* by its TxnID */
-    CHI_Id_Buffer = 2,  /* by its DBID: CompAck or write data are due */
-    CHI_Id_Snoop = 3,   /* by its TxnID */
-    CHI_Id_Retried = 4  /* a request that was retried, by its line */
-};
-
 /* Why an observer doesn't take a flit (docs/OBSERVER.md, "Faults" and "Ids and credits"): the ids or the credits don't allow
  * it (1 to 11, and 25), or its line doesn't (12 to 24). */
 enum ChiObserverReason {
@@ -677,10 +668,8 @@ typedef struct {
     uint64_t accesses;     /* loads and stores that were taken */
     uint64_t lines;        /* of memory that flits have touched */
     uint64_t aside;        /* lines that were set aside */
-    uint64_t aside_number; /* the number of the flit that set the first aside; 0 where there is none */
-    uint64_t aside_line;   /* the address of the first byte of that line */
-    uint32_t ids;          /* that are held, open or not: chi_observer_opened tells each */
-    uint32_t accounts;     /* of credits: chi_observer_account tells each */
+    uint32_t ids;          /* that are held, open or not */
+    uint32_t accounts;     /* of credits */
     uint32_t requests;     /* open requests: without their completion */
     uint32_t completions;  /* open completions: without CompAck or write data */
     uint32_t snoops;       /* open snoops: without their answer */
@@ -700,35 +689,6 @@ typedef struct {
     uint64_t accesses;    /* loads and stores that weren't judged */
     uint64_t of_accesses; /* of so many */
 } ChiUnjudged;
-
-/* An id that an observer holds. */
-typedef struct {
-    uint64_t line;  /* the address of the first byte of its line of memory */
-    uint64_t since; /* the number of the flit that opened it */
-    uint16_t node;  /* its requester */
-    uint16_t home;
-    uint16_t id;    /* the number that names it; 0 of CHI_Id_Retried */
-    uint8_t form;   /* ChiIdForm */
-    uint8_t opcode; /* ChiOpcode of its request or snoop; CHI_Op_None of one that isn't known */
-    uint8_t open;   /* 1 where it is open; 0 where its line is set aside, or the retried request surely cancelled */
-    uint8_t lacks;  /* bit n is set where its data lack word n; 0 where no beat has come */
-    uint8_t waits;  /* of CHI_Id_Retried: the credit type that it waits for; else 255 */
-    uint8_t reserved[5];
-} ChiOpenId;
-
-/* The credits of a type of a requester from a home. */
-typedef struct {
-    uint64_t promised; /* by RetryAcks */
-    uint64_t granted;
-    uint64_t spent;    /* by requests without AllowRetry */
-    uint64_t returned;
-    uint64_t owed;     /* promised, and not granted yet */
-    uint64_t unused;   /* promised and granted, and neither spent nor returned */
-    uint16_t node;     /* the requester */
-    uint16_t home;
-    uint8_t credit;    /* the type */
-    uint8_t reserved[3];
-} ChiAccount;
 
 /* An observer of any home and any caches. */
 typedef struct {
@@ -771,13 +731,6 @@ uint8_t chi_observer_unjudged(ChiObserver *observer, ChiUnjudged *unjudged);
  * where all is judged. `length` is how many bytes they are. CHI_JournalFull where there is not room for all; CHI_NoMemory. */
 uint8_t chi_observer_unjudged_text(ChiObserver *observer, uint8_t *bytes, size_t room, size_t *length);
 
-/* Tells the id of a place among those that it holds, from 0. CHI_OutOfRange behind their end. A place is an id's until the
- * next flit is taken. */
-uint8_t chi_observer_opened(ChiObserver *observer, uint32_t place, ChiOpenId *id);
-
-/* Tells the account of a place among those that it holds, from 0. CHI_OutOfRange behind their end. */
-uint8_t chi_observer_account(ChiObserver *observer, uint32_t place, ChiAccount *account);
-
 /* Copies the observer of `from`: `to` holds an observer that is the same, which takes its own memory, and what `to` held before
  * is closed. `from` stays, and each goes on by itself. CHI_NoMemory, and CHI_Closed where `from` is closed: `to` is then
  * as it was. */
@@ -800,7 +753,6 @@ const char *chi_refusal_name(uint8_t answer);  /* ChiAnswer: "NoFlit", and "OK",
 const char *chi_reason_name(uint8_t reason);   /* ChiReason: "NobodyAsks" */
 const char *chi_opcode_name(uint8_t opcode);            /* ChiOpcode: "ReadShared" */
 const char *chi_resp_name(uint8_t resp);                /* ChiResp: "SC_PD" */
-const char *chi_id_form_name(uint8_t form);             /* ChiIdForm: "Buffer" */
 const char *chi_observer_reason_name(uint8_t reason);   /* ChiObserverReason: "NotOpen" */
 
 /* Why no run of the model sends a flit, in words: a ChiReason's text, and "?" of another number. */
@@ -837,11 +789,9 @@ CHI_LAYOUT(sizeof(ChiSeen) == 96 && offsetof(ChiSeen, words) == 16 && offsetof(C
 CHI_LAYOUT(offsetof(ChiSeen, opcode) == 88 && offsetof(ChiSeen, mask) == 94);
 CHI_LAYOUT(sizeof(ChiObserverFault) == 24 && offsetof(ChiObserverFault, line) == 8 && offsetof(ChiObserverFault, node) == 16);
 CHI_LAYOUT(offsetof(ChiObserverFault, reason) == 18 && offsetof(ChiObserverFault, has_line) == 19);
-CHI_LAYOUT(sizeof(ChiObserverCounts) == 80 && offsetof(ChiObserverCounts, ids) == 48);
-CHI_LAYOUT(offsetof(ChiObserverCounts, requesters) == 76);
+CHI_LAYOUT(sizeof(ChiObserverCounts) == 64 && offsetof(ChiObserverCounts, ids) == 32);
+CHI_LAYOUT(offsetof(ChiObserverCounts, requesters) == 60);
 CHI_LAYOUT(sizeof(ChiUnjudged) == 48 && offsetof(ChiUnjudged, lines) == 16 && offsetof(ChiUnjudged, of_accesses) == 40);
-CHI_LAYOUT(sizeof(ChiOpenId) == 32 && offsetof(ChiOpenId, node) == 16 && offsetof(ChiOpenId, form) == 22);
-CHI_LAYOUT(sizeof(ChiAccount) == 56 && offsetof(ChiAccount, node) == 48 && offsetof(ChiAccount, credit) == 52);
 #undef CHI_LAYOUT
 
 #ifdef __cplusplus

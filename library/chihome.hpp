@@ -251,15 +251,6 @@ enum class Resp : std::uint8_t {
     SD_PD = CHI_Resp_SD_PD
 };
 
-/* What an open id is named by (docs/OBSERVER.md, "Ids and credits"). */
-enum class IdForm : std::uint8_t {
-    None = CHI_Id_None,
-    Request = CHI_Id_Request,
-    Buffer = CHI_Id_Buffer,
-    Snoop = CHI_Id_Snoop,
-    Retried = CHI_Id_Retried
-};
-
 /* Whether stores may be done that an observer isn't given (docs/OBSERVER.md, "Stores that are listed"). */
 enum class Stores : std::uint8_t { Hidden = CHI_Stores_Hidden, Listed = CHI_Stores_Listed };
 
@@ -460,12 +451,6 @@ struct ObserverFault {
     std::string text;
 };
 
-/* The first line of memory that was set aside, and the number of the flit that did it. */
-struct Aside {
-    std::uint64_t line = 0;
-    std::uint64_t number = 0;
-};
-
 /* How much of what it was given an observer hasn't judged: flits, lines of memory, and loads and stores, each of so many; and
  * why, as text, which is empty where all is judged. */
 struct Unjudged {
@@ -486,7 +471,6 @@ struct ObserverCounts {
     std::uint64_t accesses = 0;
     std::uint64_t lines = 0;
     std::uint64_t aside = 0;
-    std::optional<Aside> first_aside;
     std::uint32_t ids = 0;
     std::uint32_t accounts = 0;
     std::uint32_t requests = 0;
@@ -498,36 +482,6 @@ struct ObserverCounts {
     std::uint8_t homes = 0;
     /* Whether nothing is open, as it should be at the end of a run. */
     bool is_complete() const { return (requests | completions | snoops | retried | unsettled) == 0; }
-};
-
-/* An id that an observer holds: its line of memory, its requester and its home, the opcode of its request or snoop, and the
- * number of the flit that opened it. It isn't open where its line is set aside, or the retried request surely cancelled. Of
- * data in beats a bit is set for each word that lacks; a retried request waits for a credit type. */
-struct OpenId {
-    IdForm form = IdForm::None;
-    std::uint16_t id = 0;
-    std::uint16_t node = 0;
-    std::uint16_t home = 0;
-    std::uint64_t line = 0;
-    Opcode opcode = Opcode::None;
-    std::uint64_t since = 0;
-    bool open = false;
-    std::uint8_t lacks = 0;
-    std::optional<std::uint8_t> waits;
-};
-
-/* The credits of a type of a requester from a home: promised by RetryAcks, granted, spent and returned; those that are owed
- * aren't granted yet, and those that are unused neither spent nor returned. */
-struct Account {
-    std::uint16_t node = 0;
-    std::uint16_t home = 0;
-    std::uint8_t credit = 0;
-    std::uint64_t promised = 0;
-    std::uint64_t granted = 0;
-    std::uint64_t spent = 0;
-    std::uint64_t returned = 0;
-    std::uint64_t owed = 0;
-    std::uint64_t unused = 0;
 };
 
 /* An agent's copy of a line. */
@@ -824,7 +778,6 @@ inline ObserverCounts counts(const ChiObserverCounts &from) {
     to.accesses = from.accesses;
     to.lines = from.lines;
     to.aside = from.aside;
-    if (from.aside_number != 0) to.first_aside = Aside{from.aside_line, from.aside_number};
     to.ids = from.ids;
     to.accounts = from.accounts;
     to.requests = from.requests;
@@ -835,25 +788,6 @@ inline ObserverCounts counts(const ChiObserverCounts &from) {
     to.requesters = from.requesters;
     to.homes = from.homes;
     return to;
-}
-
-inline OpenId opened(const ChiOpenId &from) {
-    OpenId to;
-    to.form = IdForm(from.form);
-    to.id = from.id;
-    to.node = from.node;
-    to.home = from.home;
-    to.line = from.line;
-    to.opcode = Opcode(from.opcode);
-    to.since = from.since;
-    to.open = from.open != 0;
-    to.lacks = from.lacks;
-    if (from.waits != CHI_Nobody) to.waits = from.waits;
-    return to;
-}
-
-inline Account account(const ChiAccount &from) {
-    return {from.node, from.home, from.credit, from.promised, from.granted, from.spent, from.returned, from.owed, from.unused};
 }
 
 /* What a call that answered `answer` came to. */
@@ -1278,18 +1212,6 @@ class Observer {
         return layout::outcome(answer, layout::counts(told));
     }
 
-    /* The id, and the account of credits, of a place among those that it holds, from 0. OutOfRange behind their end. */
-    Outcome<OpenId> opened(std::uint32_t place) {
-        ChiOpenId told;
-        const std::uint8_t answer = chi_observer_opened(&handle_, place, &told);
-        return layout::outcome(answer, layout::opened(told));
-    }
-    Outcome<Account> account(std::uint32_t place) {
-        ChiAccount told;
-        const std::uint8_t answer = chi_observer_account(&handle_, place, &told);
-        return layout::outcome(answer, layout::account(told));
-    }
-
     /* An observer that is the same, in memory of its own: each goes on by itself. NoMemory. */
     Outcome<Observer> copy() const {
         Observer copied;
@@ -1333,7 +1255,6 @@ inline const char *name(Reason it) { return chi_reason_name(layout::number(it));
 inline const char *name(Answer it) { return chi_refusal_name(layout::number(it)); }
 inline const char *name(Opcode it) { return chi_opcode_name(layout::number(it)); }
 inline const char *name(Resp it) { return chi_resp_name(layout::number(it)); }
-inline const char *name(IdForm it) { return chi_id_form_name(layout::number(it)); }
 inline const char *name(ObserverReason it) { return chi_observer_reason_name(layout::number(it)); }
 
 }  // namespace chihome

@@ -285,16 +285,6 @@ class Resp(enum.IntEnum):
     SD_PD = 9
 
 
-class IdForm(enum.IntEnum):
-    """What an open id is named by (docs/OBSERVER.md, "Ids and credits")."""
-
-    None_ = 0
-    Request = 1
-    Buffer = 2
-    Snoop = 3
-    Retried = 4
-
-
 class ObserverReason(enum.IntEnum):
     """Why an observer doesn't take a flit (docs/OBSERVER.md, "Faults" and "Ids and credits")."""
 
@@ -646,23 +636,13 @@ class _ChiObserverFault(ctypes.Structure):
 
 
 class _ChiObserverCounts(ctypes.Structure):
-    _fields_ = [(it, c_uint64) for it in ("flits", "accesses", "lines", "aside", "aside_number", "aside_line")] + [
+    _fields_ = [(it, c_uint64) for it in ("flits", "accesses", "lines", "aside")] + [
         (it, c_uint32) for it in ("ids", "accounts", "requests", "completions", "snoops", "retried", "unsettled")] + [
         ("requesters", c_uint8), ("homes", c_uint8), ("reserved", c_uint8 * 2)]
 
 
 class _ChiUnjudged(ctypes.Structure):
     _fields_ = [(it, c_uint64) for it in ("flits", "of_flits", "lines", "of_lines", "accesses", "of_accesses")]
-
-
-class _ChiOpenId(ctypes.Structure):
-    _fields_ = [("line", c_uint64), ("since", c_uint64), ("node", c_uint16), ("home", c_uint16), ("id", c_uint16)] + [
-        (it, c_uint8) for it in ("form", "opcode", "open", "lacks", "waits")] + [("reserved", c_uint8 * 5)]
-
-
-class _ChiAccount(ctypes.Structure):
-    _fields_ = [(it, c_uint64) for it in ("promised", "granted", "spent", "returned", "owed", "unused")] + [
-        ("node", c_uint16), ("home", c_uint16), ("credit", c_uint8), ("reserved", c_uint8 * 3)]
 
 
 class _ChiObserver(ctypes.Structure):
@@ -722,8 +702,6 @@ _CALLS = {
     "chi_observer_counts": (c_uint8, [_observer, POINTER(_ChiObserverCounts)]),
     "chi_observer_unjudged": (c_uint8, [_observer, POINTER(_ChiUnjudged)]),
     "chi_observer_unjudged_text": (c_uint8, [_observer, _bytes, c_size_t, POINTER(c_size_t)]),
-    "chi_observer_opened": (c_uint8, [_observer, c_uint32, POINTER(_ChiOpenId)]),
-    "chi_observer_account": (c_uint8, [_observer, c_uint32, POINTER(_ChiAccount)]),
     "chi_observer_copy": (c_uint8, [_observer, _observer]),
     "chi_observer_close": (c_uint8, [_observer]),
     "chi_version": (c_char_p, []),
@@ -736,7 +714,6 @@ _CALLS = {
     "chi_reason_text": (c_char_p, [c_uint8]),
     "chi_opcode_name": (c_char_p, [c_uint8]),
     "chi_resp_name": (c_char_p, [c_uint8]),
-    "chi_id_form_name": (c_char_p, [c_uint8]),
     "chi_observer_reason_name": (c_char_p, [c_uint8]),
 }
 
@@ -926,13 +903,6 @@ class ObserverFault(NamedTuple):
     text: str
 
 
-class Aside(NamedTuple):
-    """The first line of memory that was set aside, and the number of the flit that did it."""
-
-    line: int
-    number: int
-
-
 class ObserverCounts(NamedTuple):
     """How much an observer has seen: flits, of which data in beats are one, loads and stores, lines of memory, and those that
     were set aside; and what it holds: ids, open or not, accounts of credits, what is open, and how many accounts have
@@ -942,7 +912,6 @@ class ObserverCounts(NamedTuple):
     accesses: int
     lines: int
     aside: int
-    first_aside: Optional[Aside]
     ids: int
     accounts: int
     requests: int
@@ -970,40 +939,6 @@ class Unjudged(NamedTuple):
     accesses: int
     of_accesses: int
     text: str
-
-
-class OpenId(NamedTuple):
-    """An id that an observer holds: its line of memory, its requester and its home, the opcode of its request or snoop, and
-    the number of the flit that opened it.
-
-    It isn't open where its line is set aside, or the retried request surely cancelled. Of data in beats it has the places of
-    the words that lack; a retried request waits for a credit type."""
-
-    form: IdForm
-    id: int
-    node: int
-    home: int
-    line: int
-    opcode: Opcode
-    since: int
-    open: bool
-    lacks: FrozenSet[int]
-    waits: Optional[int]
-
-
-class Account(NamedTuple):
-    """The credits of a type of a requester from a home: promised by RetryAcks, granted, spent and returned; those that are
-    owed aren't granted yet, and those that are unused neither spent nor returned."""
-
-    node: int
-    home: int
-    credit: int
-    promised: int
-    granted: int
-    spent: int
-    returned: int
-    owed: int
-    unused: int
 
 
 class Copy(NamedTuple):
@@ -1638,29 +1573,4 @@ class Observer(_Handle):
         """How much it has seen, and what it holds."""
         told = _ChiObserverCounts()
         _check(self._calls.chi_observer_counts(byref(self._handle), byref(told)))
-        aside = Aside(told.aside_line, told.aside_number) if told.aside_number else None
-        return ObserverCounts(told.flits, told.accesses, told.lines, told.aside, aside, told.ids, told.accounts, told.requests,
-                              told.completions, told.snoops, told.retried, told.unsettled, told.requesters, told.homes)
-
-    def opened(self, place: int) -> OpenId:
-        """The id of a place among those that it holds, from 0. OutOfRange behind their end."""
-        told = _ChiOpenId()
-        _check(self._calls.chi_observer_opened(byref(self._handle), _within(place, 0xFFFFFFFF), byref(told)))
-        lacks = frozenset(word for word in range(8) if told.lacks >> word & 1)
-        return OpenId(IdForm(told.form), told.id, told.node, told.home, told.line, Opcode(told.opcode), told.since,
-                      bool(told.open), lacks, None if told.waits == 255 else told.waits)
-
-    def ids(self) -> List[OpenId]:
-        """The ids that it holds."""
-        return [self.opened(place) for place in range(self.counts().ids)]
-
-    def account(self, place: int) -> Account:
-        """The account of credits of a place among those that it holds, from 0. OutOfRange behind their end."""
-        told = _ChiAccount()
-        _check(self._calls.chi_observer_account(byref(self._handle), _within(place, 0xFFFFFFFF), byref(told)))
-        return Account(told.node, told.home, told.credit, told.promised, told.granted, told.spent, told.returned, told.owed,
-                       told.unused)
-
-    def accounts(self) -> List[Account]:
-        """The accounts of credits that it holds."""
-        return [self.account(place) for place in range(self.counts().accounts)]
+        return ObserverCounts(*(getattr(told, it) for it in ObserverCounts._fields))

@@ -50,8 +50,6 @@ static const char *const OPCODES[] = {"None", "ReadNotSharedDirty", "ReadShared"
 
 static const char *const RESPS[] = {"I", "SC", "UC", "UD", "SD", "I_PD", "SC_PD", "UC_PD", "UD_PD", "SD_PD"};
 
-static const char *const ID_FORMS[] = {"None", "Request", "Buffer", "Snoop", "Retried"};
-
 static const char *const OBSERVER_REASONS[] = {"None", "InUse", "NotOpen", "Unfinished", "WordAgain", "WrongAddress",
     "NotRetryable", "OtherType", "NothingRetried", "NoCredit", "NoDbid", "Form", "OtherHome", "NotJudged", "NoAgent",
     "NotSent", "NotDue", "Busy", "NoMoment", "NoOverwriter", "NoDuty", "OtherWords", "OtherCopy", "Lost", "Other",
@@ -95,7 +93,5 @@ const char *chi_reason_text(uint8_t reason) { return NAME_IN(REASON_TEXTS, reaso
 const char *chi_opcode_name(uint8_t opcode) { return NAME_IN(OPCODES, opcode); }
 
 const char *chi_resp_name(uint8_t resp) { return NAME_IN(RESPS, resp); }
-
-const char *chi_id_form_name(uint8_t form) { return NAME_IN(ID_FORMS, form); }
 
 const char *chi_observer_reason_name(uint8_t reason) { return NAME_IN(OBSERVER_REASONS, reason); }

@@ -21,7 +21,6 @@ int main(void) {
     print_names("Reason", chi_reason_name);
     print_names("Opcode", chi_opcode_name);
     print_names("Resp", chi_resp_name);
-    print_names("IdForm", chi_id_form_name);
     print_names("ObserverReason", chi_observer_reason_name);
     return 0;
 }

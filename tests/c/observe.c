@@ -1,4 +1,5 @@
-/* Observes a trace by the library's calls, and prints what `chihome observe` prints of it, with its status.
+/* Observes a trace by the library's calls, and prints what `chihome observe` prints of it, but for what is open, with its
+ * status.
  *
  *     observe FILE [--types two|four|any] [--stores hidden|listed] [--early-grants] [--complete]
  *             [--opcodes any] [--unjudged allowed]
@@ -9,30 +10,6 @@
 #include <inttypes.h>
 
 static ChiObserver observer;
-
-/* What an open id waits for. */
-static const char *lack_of(const ChiOpenId *id) {
-    if (id->lacks != 0) return "without all words of its data";
-    if (id->form == CHI_Id_Request) return "without its completion";
-    if (id->form == CHI_Id_Buffer) return "without CompAck or write data";
-    return id->form == CHI_Id_Snoop ? "without its answer" : "not sent again or cancelled";
-}
-
-static void print_open(const ChiObserverCounts *counts) {
-    for (uint32_t place = 0; place < counts->ids; place++) {
-        ChiOpenId id;
-        if (chi_observer_opened(&observer, place, &id) != CHI_OK || !id.open) continue;
-        const char *name = id.opcode == CHI_Op_None ? "another flit" : chi_opcode_name(id.opcode);
-        printf("open: %s %s node %x at %" PRIx64 ", since line %" PRIu64 " %s\n", name,
-               strncmp(name, "Snp", 3) == 0 ? "to" : "of", id.node, id.line, id.since, lack_of(&id));
-    }
-    for (uint32_t place = 0; place < counts->accounts; place++) {
-        ChiAccount account;
-        if (chi_observer_account(&observer, place, &account) != CHI_OK || (account.owed | account.unused) == 0) continue;
-        printf("open: credits of type %x of node %x: %" PRIu64 " owed, %" PRIu64 " unused\n", account.credit, account.node,
-               account.owed, account.unused);
-    }
-}
 
 /* What isn't judged, as lines. */
 static int print_unjudged(void) {
@@ -55,7 +32,6 @@ static int print_end(int complete, int allowed) {
     if (!print_unjudged()) return 1;
     printf("accepted %" PRIu64 " flits on %" PRIu64 " cache lines\n", flits, not_judged.of_lines - not_judged.lines);
     if (accesses > 0) printf("accepted %" PRIu64 " loads and stores\n", accesses);
-    print_open(&counts);
     if (!allowed && (not_judged.flits | not_judged.accesses) != 0) return (flits | accesses) == 0 ? 8 : 9;
     uint32_t open = counts.requests | counts.completions | counts.snoops | counts.retried | counts.unsettled;
     return complete && open != 0 ? 7 : 0;

@@ -53,7 +53,6 @@ static void moves() {
     Observer closed;
     HOLDS(!closed.is_open() && closed.close() == Answer::Closed && closed.take(Seen()) == Answer::Closed);
     HOLDS(closed.fault().answer() == Answer::Closed && closed.counts().answer() == Answer::Closed && closed.text().empty());
-    HOLDS(closed.opened(0).answer() == Answer::Closed && closed.account(0).answer() == Answer::Closed);
     HOLDS(Observer::open(sizes(0)).answer() == Answer::OutOfRange && Observer::open(sizes(8)));
     ObserverConfig wrong = sizes(8);
     wrong.types = 3;
@@ -78,8 +77,8 @@ static void copies() {
     HOLDS(take(observer, "REQ 8 40 1 ReadShared 1040 - - 1 - -") == Answer::OK);
     Observer copy = *static_cast<const Observer &>(observer).copy();
     HOLDS(copy.is_open() && observer.is_open() && copy.counts()->requests == 1);
-    HOLDS(take(copy, "DAT 40 8 1 CompData - SC 11 - - 1,2,3,4,5,6,7,8") == Answer::OK && copy.opened(0)->since == 2);
-    HOLDS(observer.counts()->requests == 1 && observer.opened(0)->form == IdForm::Request);
+    HOLDS(take(copy, "DAT 40 8 1 CompData - SC 11 - - 1,2,3,4,5,6,7,8") == Answer::OK && copy.counts()->requests == 0);
+    HOLDS(observer.counts()->requests == 1);
     HOLDS(take(observer, "RSP 40 8 9 RetryAck - - - - 0 -") == Answer::Fault && (*observer.copy()->fault())->number == 2);
     HOLDS(!*copy.fault() && copy.close() == Answer::OK);
 }
@@ -90,21 +89,17 @@ static void answers() {
     wrong.number = 0;
     HOLDS(observer.take(wrong) == Answer::OutOfRange && observer.take(Seen()) == Answer::OutOfRange);
     wrong.number = 7;
-    HOLDS(observer.take(wrong) == Answer::OK && observer.opened(0)->since == 7 && !*observer.fault());
-    HOLDS(take(observer, "DAT 40 8 1 CompData - SC 11 - - 1,2,3,4,x,x,x,x") == Answer::OK && observer.opened(0)->lacks == 0xf0);
-    HOLDS(take(observer, "DAT 40 8 1 CompData - SC 11 - - x,x,x,x,5,6,7,8") == Answer::OK && observer.opened(0)->since == 8);
-    HOLDS(observer.opened(0)->form == IdForm::Buffer && observer.opened(0)->id == 0x11 && observer.opened(0)->open);
-    HOLDS(observer.opened(1).answer() == Answer::OutOfRange && !observer.counts()->is_complete());
+    HOLDS(observer.take(wrong) == Answer::OK && observer.counts()->ids == 1 && !*observer.fault());
+    HOLDS(take(observer, "DAT 40 8 1 CompData - SC 11 - - 1,2,3,4,x,x,x,x") == Answer::OK && observer.counts()->ids == 2);
+    HOLDS(take(observer, "DAT 40 8 1 CompData - SC 11 - - x,x,x,x,5,6,7,8") == Answer::OK && observer.counts()->ids == 1);
+    HOLDS(observer.counts()->completions == 1 && !observer.counts()->is_complete());
     HOLDS(take(observer, "RSP 8 40 11 CompAck - - - - - -") == Answer::OK && observer.counts()->is_complete());
     HOLDS(take(observer, "REQ 9 40 1 AtomicStore 2040 - - 1 - -") == Answer::SetAside);
-    HOLDS(observer.counts()->aside == 1 && observer.counts()->first_aside->line == 0x2040);
-    HOLDS(observer.counts()->first_aside->number == 11 && observer.counts()->lines == 2);
+    HOLDS(observer.counts()->aside == 1 && observer.counts()->lines == 2);
     HOLDS(take(observer, "REQ 9 40 2 ReadShared 3040 - - 1 - -") == Answer::Full && !*observer.fault());
     HOLDS(take(observer, "REQ 9 40 2 ReadShared 1040 - - 1 - -") == Answer::OK);
-    HOLDS(take(observer, "RSP 40 9 2 RetryAck - - - - 2 -") == Answer::OK && observer.opened(1)->waits == 2);
-    const Account account = *observer.account(0);
-    HOLDS(account.node == 9 && account.home == 0x40 && account.credit == 2 && account.promised == 1 && account.owed == 1);
-    HOLDS(observer.account(1).answer() == Answer::OutOfRange && observer.counts()->unsettled == 1);
+    HOLDS(take(observer, "RSP 40 9 2 RetryAck - - - - 2 -") == Answer::OK && observer.counts()->retried == 1);
+    HOLDS(observer.counts()->accounts == 1 && observer.counts()->unsettled == 1);
     const Unjudged unjudged = *observer.unjudged();
     HOLDS(unjudged.flits == 1 && unjudged.of_flits == observer.counts()->flits && unjudged.accesses == 0);
     HOLDS(unjudged.lines == 1 && unjudged.of_lines == 2 && unjudged.text.find("\nAtomicStore: 1 cache lines, ") != std::string::npos);
@@ -128,7 +123,7 @@ static void faults() {
     HOLDS(take(other, "RSP 8 40 3 CompAck - - - - - -") == Answer::Fault);
     const ObserverFault id = **other.fault();
     HOLDS(id.reason == ObserverReason::NotOpen && id.number == 2 && id.node == 8 && !id.line);
-    HOLDS(std::strcmp(name(id.reason), "NotOpen") == 0 && std::strcmp(name(IdForm::Buffer), "Buffer") == 0);
+    HOLDS(std::strcmp(name(id.reason), "NotOpen") == 0);
     HOLDS(std::strcmp(name(Opcode::SnpOnce), "SnpOnce") == 0 && std::strcmp(name(Resp::SD_PD), "SD_PD") == 0);
     HOLDS(std::strcmp(name(Answer::Full), "Full") == 0);
 }

@@ -19,8 +19,8 @@ TOP = Path(__file__).resolve().parents[2]
 sys.dont_write_bytecode = True
 sys.path.insert(0, str(TOP / "library"))
 import chihome  # noqa: E402
-from chihome import (Answer, Channel, IdForm, Kind, Message, ObserverReason, Opcode, Phase, ReleaseForm, Resp,  # noqa: E402
-                     Seen, ServingForm, State, Step)
+from chihome import (Answer, Channel, Kind, Message, ObserverReason, Opcode, Phase, ReleaseForm, Resp, Seen,  # noqa: E402
+                     ServingForm, State, Step)
 
 
 def has(name):
@@ -456,9 +456,8 @@ class Observers(unittest.TestCase):
             for wrong in (good._replace(source=1 << 16), good._replace(txn=-1), good._replace(address=1 << 64),
                           down(Opcode.CompData, 8, 1, words=(1 << 64,)), down(Opcode.CompData, 8, 1, words=(1,) * 9)):
                 self.assertRaises(ValueError, observer.take, wrong)
-            self.assertEqual((observer.counts().flits, observer.fault(), observer.ids()), (0, None, []))
-        for call in (lambda: observer.take(good), observer.fault, observer.counts, observer.ids, observer.accounts, observer.unjudged,
-                     lambda: observer.opened(0), lambda: observer.account(0)):
+            self.assertEqual((observer.counts().flits, observer.fault(), observer.counts().ids), (0, None, 0))
+        for call in (lambda: observer.take(good), observer.fault, observer.counts, observer.unjudged):
             self.assertRaises(chihome.Closed, call)
         observer.close()
         self.assertTrue(observer.closed)
@@ -532,8 +531,7 @@ class Observers(unittest.TestCase):
             self.assertTrue(observer.take(up(Opcode.ReadShared, 9, 3, 0x2040)))
             self.assertFalse(observer.take(Seen(Opcode.Load, 9, address=0x1048, words=(5,))))
             counts = observer.counts()
-            self.assertEqual((counts.aside, counts.first_aside), (1, chihome.Aside(0x1040, 4)))
-            self.assertEqual((counts.flits, counts.lines, counts.accesses, counts.is_complete), (6, 2, 1, False))
+            self.assertEqual((counts.aside, counts.flits, counts.lines, counts.accesses, counts.is_complete), (1, 6, 2, 1, False))
             self.assertEqual(observer.unjudged(), chihome.Unjudged(
                 2, 6, 1, 2, 1, 1, "not judged: 2 of 6 flits, on 1 of 2 cache lines\n"
                 "AtomicLoad: 1 cache lines, the first 1040 by trace line 4\nnot judged: 1 of 1 loads and stores\n"))
@@ -558,7 +556,7 @@ class Observers(unittest.TestCase):
         with chihome.Observer(lines=2, ids=4, accounts=1, requesters=2) as observer:
             observer.take(up(Opcode.ReadUnique, 8, 1))
             with observer.copy() as copy:
-                self.assertEqual((copy.config, copy.ids(), copy.counts()), (observer.config, observer.ids(), observer.counts()))
+                self.assertEqual((copy.config, copy.counts()), (observer.config, observer.counts()))
                 self.read(copy, 9, Resp.SC, 0x11)
                 self.assertEqual((observer.counts().flits, copy.counts().flits), (1, 4))
                 self.assertRaises(chihome.Fault, observer.take, up(Opcode.ReadUnique, 8, 1, 0x1080))
@@ -574,23 +572,13 @@ class Observers(unittest.TestCase):
                          up(Opcode.ReadShared, 9, 4, 0x2000), down(Opcode.RetryAck, 9, 4, credit=3),
                          Seen(Opcode.PCrdGrant, HOME, 9, credit=3), Seen(Opcode.SnpShared, HOME, 9, 6, 0x3000)):
                 self.assertTrue(observer.take(seen))
-            held = {it.form: it for it in observer.ids()}
-            self.assertEqual(held, {
-                IdForm.Request: chihome.OpenId(IdForm.Request, 1, 8, HOME, 0x1040, Opcode.ReadUnique, 1, True,
-                                               frozenset({1, 3, 4, 5, 6, 7}), None),
-                IdForm.Buffer: chihome.OpenId(IdForm.Buffer, 2, 8, HOME, 0x1040, Opcode.ReadUnique, 2, True, frozenset(), None),
-                IdForm.Retried: chihome.OpenId(IdForm.Retried, 0, 9, HOME, 0x2000, Opcode.ReadShared, 4, True, frozenset(), 3),
-                IdForm.Snoop: chihome.OpenId(IdForm.Snoop, 6, 9, HOME, 0x3000, Opcode.SnpShared, 6, True, frozenset(), None)})
-            self.assertEqual(observer.accounts(), [chihome.Account(9, HOME, 3, 1, 1, 0, 0, 0, 1)])
-            self.assertRaises(chihome.OutOfRange, observer.opened, 4)
-            self.assertRaises(chihome.OutOfRange, observer.account, 1)
             counts = observer.counts()
             self.assertEqual((counts.requests, counts.completions, counts.snoops, counts.retried, counts.unsettled), (1,) * 5)
             self.assertEqual((counts.requesters, counts.homes, counts.ids, counts.accounts), (2, 1, 4, 1))
 
     def test_names(self):
         calls = chihome._library()
-        for name, kind in (("opcode", Opcode), ("resp", Resp), ("id_form", IdForm), ("observer_reason", ObserverReason)):
+        for name, kind in (("opcode", Opcode), ("resp", Resp), ("observer_reason", ObserverReason)):
             for it in kind:
                 self.assertEqual(getattr(calls, f"chi_{name}_name")(it).decode(), it.name.rstrip("_"))
 

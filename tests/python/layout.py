@@ -26,7 +26,7 @@ NUMBERS = {"uint8_t": ctypes.c_uint8, "uint16_t": ctypes.c_uint16, "uint32_t": c
 
 
 # What stands before the names of some enums in C, where all enums' names are in one place.
-PREFIXES = {"Opcode": "Op_", "Resp": "Resp_", "IdForm": "Id_", "ObserverReason": "Fault_", "Stores": "Stores_"}
+PREFIXES = {"Opcode": "Op_", "Resp": "Resp_", "ObserverReason": "Fault_", "Stores": "Stores_"}
 # What is no refusal: the flit is taken.
 TAKEN = {chihome.Answer.OK, chihome.Answer.SetAside}
 

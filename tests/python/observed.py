@@ -1,6 +1,6 @@
 #!/usr/bin/env python3
 """Holds the class Observer of library/chihome.py against `chihome observe`: each trace is read here, given to an observer flit
-by flit, and what it tells has to be what the program prints, with its status.
+by flit, and what it tells has to be what the program prints, but for what is open, with its status.
 
 Usage: tests/python/observed.py [PROGRAM]
 
@@ -22,14 +22,12 @@ TOP = Path(__file__).resolve().parents[2]
 sys.dont_write_bytecode = True
 sys.path.insert(0, str(TOP / "library"))
 import chihome  # noqa: E402
-from chihome import IdForm, Opcode, Resp, Seen, Stores  # noqa: E402
+from chihome import Opcode, Resp, Seen, Stores  # noqa: E402
 
 # The numbers of the opcodes of a channel that are judged, and of those of Issue B that aren't; and what stands for others.
 CHANNELS = {"REQ": [*range(1, 17), *range(41, 60)], "SNP": [*range(17, 25), *range(60, 71)], "RSP": [*range(25, 31), *range(71, 75)],
             "DAT": [*range(31, 35), *range(75, 79)], "CPU": [35, 36]}
 OTHERS = {"REQ": Opcode.OtherRequest, "SNP": Opcode.OtherSnoop}
-LACKS = {IdForm.Request: "without its completion", IdForm.Buffer: "without CompAck or write data",
-         IdForm.Snoop: "without its answer", IdForm.Retried: "not sent again or cancelled"}
 SECONDS = 60
 RUNS = 400
 
@@ -137,18 +135,6 @@ def told(code, its):
     return fields
 
 
-def opened(observer):
-    """The lines on what is open."""
-    for it in observer.ids():
-        name = "another flit of" if it.opcode == Opcode.None_ else it.opcode.name + (" to" if it.form == IdForm.Snoop else " of")
-        lack = "without all words of its data" if it.lacks else LACKS[it.form]
-        if it.open:
-            yield f"open: {name} node {it.node:x} at {it.line:x}, since line {it.since} {lack}"
-    for it in observer.accounts():
-        if it.owed or it.unused:
-            yield f"open: credits of type {it.credit:x} of node {it.node:x}: {it.owed} owed, {it.unused} unused"
-
-
 def ended(observer, complete, allowed):
     """The status and the lines on a trace whose flits are all taken."""
     counts, unjudged = observer.counts(), observer.unjudged()
@@ -158,7 +144,6 @@ def ended(observer, complete, allowed):
     lines = unjudged.text.splitlines() + [f"accepted {flits} flits on {counts.lines - unjudged.lines} cache lines"]
     if accesses:
         lines.append(f"accepted {accesses} loads and stores")
-    lines += opened(observer)
     if unjudged.text and not allowed:
         return 9 if flits or accesses else 8, lines
     return 7 if complete and not counts.is_complete else 0, lines
@@ -205,9 +190,9 @@ def stored(trace):
 
 
 def asked(program, trace):
-    """The status and the lines that the program prints."""
+    """The status and the lines that the program prints, but for what is open."""
     done = subprocess.run([program, "observe", trace], stdout=subprocess.PIPE, stderr=subprocess.PIPE, text=True, timeout=SECONDS)
-    return done.returncode, done.stdout.splitlines()
+    return done.returncode, [it for it in done.stdout.splitlines() if not it.startswith("open: ")]
 
 
 def random_traces():
@@ -245,7 +230,7 @@ def main(names):
             continue
         status, lines = stored(trace)
         # (the library keeps no flits for a context)
-        wanted = status, [it for it in lines if not it.startswith("before: ")]
+        wanted = status, [it for it in lines if not it.startswith(("before: ", "open: "))]
         given = observed(trace.read_text(), arguments)
         same += given == wanted
         wrong += [(trace, given, wanted)] * (given != wanted)

@@ -21,11 +21,11 @@ use Rattle.chi_library.specs.declared.flits.ChiFlit.{ChiFlit}
 use Rattle.chi_library.specs.declared.flits.ChiFlits.{ChiFlits}
 use Rattle.chi_library.specs.declared.flits.ChiSent.{ChiSent}
 use Rattle.chi_flit.specs.Kind.{kind_number}
-use Rattle.chi_library.specs.Messages as numbers
+use Rattle.chi_library.specs.declared.messages.TheConstants as numbers
 use Rattle.chi_library.specs.Numbers.{flag_number}
 
 abbrev pub no_flit : ChiFlit
-no_flit = record { message = numbers.no_message; kind = 0; slot = 0; allow_retry = 0; credit = 0; reserved = replicate 3 0; words = no_words }
+no_flit = record { message = numbers.NO_MESSAGE; kind = 0; slot = 0; allow_retry = 0; credit = 0; reserved = replicate 3 0; words = no_words }
 
 -- a message by its number alone, and one with data
 abbrev pub plain_told : ℕ → ChiFlit
@@ -36,40 +36,40 @@ data_told n words = record no_flit { message = n; words = words }
 
 abbrev pub request_told : Request → ChiFlit
 request_told request =
-    record no_flit { message = numbers.request; kind = kind_number request.kind; slot = request.slot.0; allow_retry = flag_number request.allow_retry }
+    record no_flit { message = numbers.REQUEST; kind = kind_number request.kind; slot = request.slot.0; allow_retry = flag_number request.allow_retry }
 
 abbrev pub snoop_message : Snoop → ℕ
-snoop_message SnpShared = numbers.snp_shared
-snoop_message SnpNotSharedDirty = numbers.snp_not_shared_dirty
-snoop_message SnpUnique = numbers.snp_unique
-snoop_message SnpCleanInvalid = numbers.snp_clean_invalid
+snoop_message SnpShared = numbers.SNP_SHARED
+snoop_message SnpNotSharedDirty = numbers.SNP_NOT_SHARED_DIRTY
+snoop_message SnpUnique = numbers.SNP_UNIQUE
+snoop_message SnpCleanInvalid = numbers.SNP_CLEAN_INVALID
 
 abbrev pub response_told : RspDown → ChiFlit
-response_told (RetryAck ty) = record no_flit { message = numbers.retry_ack; credit = credit_number ty }
-response_told CompUC = plain_told numbers.comp_uc
-response_told CompI = plain_told numbers.comp_i
-response_told CompDBIDResp = plain_told numbers.comp_dbid_resp
+response_told (RetryAck ty) = record no_flit { message = numbers.RETRY_ACK; credit = credit_number ty }
+response_told CompUC = plain_told numbers.COMP_UC
+response_told CompI = plain_told numbers.COMP_I
+response_told CompDBIDResp = plain_told numbers.COMP_DBID_RESP
 
 abbrev pub dat_down_message : Bool → ℕ
-dat_down_message false = numbers.comp_data_sc
-dat_down_message true = numbers.comp_data_uc
+dat_down_message false = numbers.COMP_DATA_SC
+dat_down_message true = numbers.COMP_DATA_UC
 
 abbrev pub rsp_up_message : RspUp → ℕ
-rsp_up_message SnpRespI = numbers.snp_resp_i
-rsp_up_message SnpRespSC = numbers.snp_resp_sc
-rsp_up_message CompAck = numbers.comp_ack
+rsp_up_message SnpRespI = numbers.SNP_RESP_I
+rsp_up_message SnpRespSC = numbers.SNP_RESP_SC
+rsp_up_message CompAck = numbers.COMP_ACK
 
 abbrev pub write_message : State → ℕ
-write_message I = numbers.copy_back_wr_data_i
-write_message SC = numbers.copy_back_wr_data_sc
-write_message UC = numbers.copy_back_wr_data_uc
-write_message UD = numbers.copy_back_wr_data_ud_pd
-write_message SD = numbers.copy_back_wr_data_sd_pd
+write_message I = numbers.COPY_BACK_WR_DATA_I
+write_message SC = numbers.COPY_BACK_WR_DATA_SC
+write_message UC = numbers.COPY_BACK_WR_DATA_UC
+write_message UD = numbers.COPY_BACK_WR_DATA_UD_PD
+write_message SD = numbers.COPY_BACK_WR_DATA_SD_PD
 
 abbrev pub dat_up_told : DatUp → ChiFlit
-dat_up_told (SnpRespDataIPD words) = data_told numbers.snp_resp_data_i_pd words
-dat_up_told (SnpRespDataSCPD words) = data_told numbers.snp_resp_data_sc_pd words
-dat_up_told (SnpRespDataSD words) = data_told numbers.snp_resp_data_sd words
+dat_up_told (SnpRespDataIPD words) = data_told numbers.SNP_RESP_DATA_I_PD words
+dat_up_told (SnpRespDataSCPD words) = data_told numbers.SNP_RESP_DATA_SC_PD words
+dat_up_told (SnpRespDataSD words) = data_told numbers.SNP_RESP_DATA_SD words
 dat_up_told (CopyBackWrData state words) = data_told (write_message state) words
 
 -- a message that may be in flight

@@ -2,7 +2,6 @@ pub mod Numbers
 pub mod Calls
 pub mod Actions
 pub mod Sizes
-pub mod Messages
 pub mod Flits
 pub mod Lines
 pub mod Records
@@ -20,7 +19,6 @@ pub mod Taken
 pub mod Observed
 pub mod MonitorHandle
 pub mod MonitorCalls
-pub mod Opcodes
 pub mod SeenFlits
 pub mod ObserverTold
 pub mod ObserverHandle

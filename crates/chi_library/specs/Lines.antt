@@ -1,7 +1,6 @@
 -- A line in C's numbers (docs/PROTOCOL.md, "One line"; docs/LIBRARY.md, "Numbers").
-use Rattle.std.specs.Prelude.{ℕ, Option, Some, None, map, replicate}
+use Rattle.std.specs.Prelude.{ℕ, Option, Some, None, map}
 use Rattle.chi_flit.specs.declared.numbers.Agent.{Agent}
-use Rattle.chi_flit.specs.Message.{no_words}
 use Rattle.chi_slice.specs.Words.{CopyView, LineView, Pending, Phase, Serving, Waiting}
 use Rattle.chi_slice.specs.Servings.{Idle, Snooping, AwaitingCompAck, AwaitingWriteData}
 use Rattle.chi_slice.specs.Phases.{Sent, Retried}
@@ -9,12 +8,10 @@ use Rattle.chi_library.specs.declared.lines.ChiCopy.{ChiCopy}
 use Rattle.chi_library.specs.declared.lines.ChiLine.{ChiLine}
 use Rattle.chi_library.specs.declared.lines.ChiRequest.{ChiRequest}
 use Rattle.chi_library.specs.declared.lines.ChiServing.{ChiServing}
+use Rattle.chi_library.specs.declared.lines.TheConstants.ChiLine as blank
 use Rattle.chi_flit.specs.Kind.{kind_number}
 use Rattle.chi_flit.specs.State.{state_number}
 use Rattle.chi_library.specs.Numbers.{flag_number}
-
-abbrev pub no_copy_told : ChiCopy
-no_copy_told = record { state = 0; words = no_words }
 
 abbrev pub no_request_told : ChiRequest
 no_request_told = record { phase = 0; kind = 0; slot = 0 }
@@ -24,18 +21,7 @@ no_serving_told = record { form = 0; agent = 0; kind = 0; slot = 0 }
 
 -- a line of which nothing is told
 abbrev pub no_line_told : ChiLine
-no_line_told = record {
-  copies = replicate 8 no_copy_told;
-  memory = no_words;
-  last = no_words;
-  pending = replicate 8 no_request_told;
-  waiting = replicate 8 no_request_told;
-  named = replicate 8 0;
-  awaited = replicate 8 0;
-  serving = no_serving_told;
-  unique = 0;
-  owner = 0;
-}
+no_line_told = blank.NONE
 
 abbrev pub copy_told : CopyView → ChiCopy
 copy_told copy = record { state = state_number copy.state; words = copy.words }

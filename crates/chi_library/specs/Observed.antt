@@ -13,7 +13,7 @@ use Rattle.chi_flit.specs.declared.state.State.TheVariants.{I, SC, UC, UD, SD}
 use Rattle.chi_explain.specs.declared.sent.SentFlit.{SentFlit}
 use Rattle.chi_library.specs.declared.flits.ChiFlit.{ChiFlit}
 use Rattle.chi_library.specs.declared.flits.ChiSent.{ChiSent}
-use Rattle.chi_library.specs.Messages as numbers
+use Rattle.chi_library.specs.declared.messages.TheConstants as numbers
 use Rattle.chi_flit.specs.Kind.{kind_numbered}
 
 -- a request needs a kind, and a RetryAck a credit type; a request's slot isn't read
@@ -28,47 +28,47 @@ retry_if (Some ty) = Some (RspDown (RetryAck ty))
 -- a request or a snoop
 abbrev pub asked_of : ChiFlit → Option Msg
 asked_of flit =
-    if flit.message == numbers.request then request_if (kind_numbered flit.kind) flit else (
-    if flit.message == numbers.snp_shared then Some (Snp SnpShared) else (
-    if flit.message == numbers.snp_not_shared_dirty then Some (Snp SnpNotSharedDirty) else (
-    if flit.message == numbers.snp_unique then Some (Snp SnpUnique) else (
-    if flit.message == numbers.snp_clean_invalid then Some (Snp SnpCleanInvalid) else None))))
+    if flit.message == numbers.REQUEST then request_if (kind_numbered flit.kind) flit else (
+    if flit.message == numbers.SNP_SHARED then Some (Snp SnpShared) else (
+    if flit.message == numbers.SNP_NOT_SHARED_DIRTY then Some (Snp SnpNotSharedDirty) else (
+    if flit.message == numbers.SNP_UNIQUE then Some (Snp SnpUnique) else (
+    if flit.message == numbers.SNP_CLEAN_INVALID then Some (Snp SnpCleanInvalid) else None))))
 
 -- a response to a requester, or the data of a read
 abbrev pub response_of : ChiFlit → Option Msg
 response_of flit =
-    if flit.message == numbers.retry_ack then retry_if (credit_of flit.credit) else (
-    if flit.message == numbers.comp_uc then Some (RspDown CompUC) else (
-    if flit.message == numbers.comp_i then Some (RspDown CompI) else (
-    if flit.message == numbers.comp_dbid_resp then Some (RspDown CompDBIDResp) else (
-    if flit.message == numbers.comp_data_sc then Some (DatDown (record { words = flit.words; unique = false })) else (
-    if flit.message == numbers.comp_data_uc then Some (DatDown (record { words = flit.words; unique = true })) else None)))))
+    if flit.message == numbers.RETRY_ACK then retry_if (credit_of flit.credit) else (
+    if flit.message == numbers.COMP_UC then Some (RspDown CompUC) else (
+    if flit.message == numbers.COMP_I then Some (RspDown CompI) else (
+    if flit.message == numbers.COMP_DBID_RESP then Some (RspDown CompDBIDResp) else (
+    if flit.message == numbers.COMP_DATA_SC then Some (DatDown (record { words = flit.words; unique = false })) else (
+    if flit.message == numbers.COMP_DATA_UC then Some (DatDown (record { words = flit.words; unique = true })) else None)))))
 
 -- a response of a requester, with or without data
 abbrev pub answered_of : ChiFlit → Option Msg
 answered_of flit =
-    if flit.message == numbers.snp_resp_i then Some (RspUp SnpRespI) else (
-    if flit.message == numbers.snp_resp_sc then Some (RspUp SnpRespSC) else (
-    if flit.message == numbers.comp_ack then Some (RspUp CompAck) else (
-    if flit.message == numbers.snp_resp_data_i_pd then Some (DatUp (SnpRespDataIPD flit.words)) else (
-    if flit.message == numbers.snp_resp_data_sc_pd then Some (DatUp (SnpRespDataSCPD flit.words)) else (
-    if flit.message == numbers.snp_resp_data_sd then Some (DatUp (SnpRespDataSD flit.words)) else None)))))
+    if flit.message == numbers.SNP_RESP_I then Some (RspUp SnpRespI) else (
+    if flit.message == numbers.SNP_RESP_SC then Some (RspUp SnpRespSC) else (
+    if flit.message == numbers.COMP_ACK then Some (RspUp CompAck) else (
+    if flit.message == numbers.SNP_RESP_DATA_I_PD then Some (DatUp (SnpRespDataIPD flit.words)) else (
+    if flit.message == numbers.SNP_RESP_DATA_SC_PD then Some (DatUp (SnpRespDataSCPD flit.words)) else (
+    if flit.message == numbers.SNP_RESP_DATA_SD then Some (DatUp (SnpRespDataSD flit.words)) else None)))))
 
 -- write data
 abbrev pub write_of : ChiFlit → Option Msg
 write_of flit =
-    if flit.message == numbers.copy_back_wr_data_i then Some (DatUp (CopyBackWrData I flit.words)) else (
-    if flit.message == numbers.copy_back_wr_data_sc then Some (DatUp (CopyBackWrData SC flit.words)) else (
-    if flit.message == numbers.copy_back_wr_data_uc then Some (DatUp (CopyBackWrData UC flit.words)) else (
-    if flit.message == numbers.copy_back_wr_data_ud_pd then Some (DatUp (CopyBackWrData UD flit.words)) else (
-    if flit.message == numbers.copy_back_wr_data_sd_pd then Some (DatUp (CopyBackWrData SD flit.words)) else None))))
+    if flit.message == numbers.COPY_BACK_WR_DATA_I then Some (DatUp (CopyBackWrData I flit.words)) else (
+    if flit.message == numbers.COPY_BACK_WR_DATA_SC then Some (DatUp (CopyBackWrData SC flit.words)) else (
+    if flit.message == numbers.COPY_BACK_WR_DATA_UC then Some (DatUp (CopyBackWrData UC flit.words)) else (
+    if flit.message == numbers.COPY_BACK_WR_DATA_UD_PD then Some (DatUp (CopyBackWrData UD flit.words)) else (
+    if flit.message == numbers.COPY_BACK_WR_DATA_SD_PD then Some (DatUp (CopyBackWrData SD flit.words)) else None))))
 
 -- the message that C's numbers name
 abbrev pub observed_message : ChiFlit → Option Msg
 observed_message flit =
-    if nat_lt flit.message numbers.retry_ack then asked_of flit else (
-    if nat_lt flit.message numbers.snp_resp_i then response_of flit else (
-    if nat_lt flit.message numbers.copy_back_wr_data_i then answered_of flit else write_of flit))
+    if nat_lt flit.message numbers.RETRY_ACK then asked_of flit else (
+    if nat_lt flit.message numbers.SNP_RESP_I then response_of flit else (
+    if nat_lt flit.message numbers.COPY_BACK_WR_DATA_I then answered_of flit else write_of flit))
 
 abbrev pub observed_if : ℕ → Option Msg → Option SentFlit
 observed_if n None = None

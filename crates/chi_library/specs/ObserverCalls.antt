@@ -1,25 +1,19 @@
 -- What the calls on an observer answer, leave and tell, by C's numbers (docs/LIBRARY.md, "An observer").
-use Rattle.std.specs.Prelude.{◌≡◌, ◌⊎◌, ℕ, List, Option, Some, None, slice_get}
+use Rattle.std.specs.Prelude.{◌≡◌, ◌⊎◌, ℕ, List, Option, Some, None}
 use Rattle.std.specs.Global.{Global}
-use Rattle.std.specs.Map.{values_of}
 use Rattle.chi_trace.specs.declared.any_flits.AnySeen.{AnySeen}
 use Rattle.chi_observe.specs.declared.benches.BenchWatch.{BenchWatch}
 use Rattle.chi_observe.specs.declared.benches.Judged.{Judged}
-use Rattle.chi_observe.specs.declared.credits.Account.{Account}
 use Rattle.chi_observe.specs.declared.facts.FaultFacts.{FaultFacts}
-use Rattle.chi_observe.specs.declared.ids.OpenId.{OpenId}
 use Rattle.chi_observe.specs.Benches.{IsSeen, IsToldOf, benched, nothing_benched}
-use Rattle.chi_observe.specs.Pending.{is_id_open}
 use Rattle.chi_observe.specs.Tallies.{tallied}
 use Rattle.chi_observe.specs.Told.{IsUnjudgedText}
 use Rattle.chi_observe.specs.Watched.{Watched}
-use Rattle.chi_library.specs.declared.observer_told.ChiAccount.{ChiAccount}
 use Rattle.chi_library.specs.declared.observer_told.ChiObserverCounts.{ChiObserverCounts}
 use Rattle.chi_library.specs.declared.observer_told.ChiObserverFault.{ChiObserverFault}
-use Rattle.chi_library.specs.declared.observer_told.ChiOpenId.{ChiOpenId}
 use Rattle.chi_library.specs.declared.observer_told.ChiUnjudged.{ChiUnjudged}
 use Rattle.chi_library.specs.declared.observer_told.Opening.{Opening}
-use Rattle.chi_library.specs.ObserverTold.{account_told, counts_told, ended_number, fault_told, id_told, judged_number, no_account, no_fault, no_id, unjudged_told}
+use Rattle.chi_library.specs.ObserverTold.{counts_told, ended_number, fault_told, judged_number, no_fault, unjudged_told}
 use Rattle.chi_library.specs.SavedSlices.{AreBytesTold}
 
 -- an observer that has seen no flit opens
@@ -69,18 +63,3 @@ IsUnjudgedTextTold (Some b) room answer new told = IsUnjudgedTextOf (told_in b) 
 abbrev pub closing_number : Option (BenchWatch Global) → ℕ
 closing_number None = 255
 closing_number (Some b) = ended_number (told_in b).counts
-
--- the id and the account of a place
-abbrev pub id_in : BenchWatch Global → ℕ → Option OpenId
-id_in b place = slice_get (values_of (told_in b).ids) place
-
-abbrev pub id_if : BenchWatch Global → Option OpenId → ChiOpenId
-id_if b None = no_id
-id_if b (Some id) = id_told id (is_id_open (told_in b) id)
-
-abbrev pub account_in : BenchWatch Global → ℕ → Option Account
-account_in b place = slice_get (values_of (told_in b).accounts) place
-
-abbrev pub account_if : Option Account → ChiAccount
-account_if None = no_account
-account_if (Some account) = account_told account

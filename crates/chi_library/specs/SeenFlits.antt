@@ -18,13 +18,12 @@ use Rattle.chi_trace.specs.declared.fields.DbId.{DbId}
 use Rattle.chi_trace.specs.declared.fields.PcrdType.{PcrdType}
 use Rattle.chi_trace.specs.declared.fields.Resp.{Resp}
 use Rattle.chi_trace.specs.declared.fields.Resp.TheVariants.{I, SC, UC, UD, SD, IPD, SCPD, UCPD, UDPD, SDPD}
-use Rattle.chi_trace.specs.declared.flits.Flit.{Flit}
 use Rattle.chi_trace.specs.declared.flits.Flit.TheVariants as flits
 use Rattle.chi_trace.specs.declared.flits.RequestFields.{RequestFields}
 use Rattle.chi_trace.specs.declared.flits.SnoopFields.{SnoopFields}
 use Rattle.chi_trace.specs.declared.flits.Transaction.{Transaction}
 use Rattle.chi_trace.specs.declared.other_opcodes.OtherOpcode.{OtherOpcode}
-use Rattle.chi_library.specs.Opcodes as opcodes
+use Rattle.chi_library.specs.declared.opcodes.TheConstants as opcodes
 use Rattle.chi_library.specs.declared.seen_flits.ChiSeen.{ChiSeen}
 
 -- an opcode of a design's own
@@ -102,22 +101,22 @@ other_kind_flit kind fields = any.Request kind fields
 
 abbrev pub request_flit : ℕ → RequestFields → Option AnyFlit
 request_flit opcode fields =
-    if opcode == opcodes.read_not_shared_dirty then Some (kind_flit kinds.ReadNotSharedDirty fields) else (
-    if opcode == opcodes.read_shared then Some (kind_flit kinds.ReadShared fields) else (
-    if opcode == opcodes.read_clean then Some (other_kind_flit others.ReadClean fields) else (
-    if opcode == opcodes.read_once then Some (other_kind_flit others.ReadOnce fields) else (
-    if opcode == opcodes.read_unique then Some (kind_flit kinds.ReadUnique fields) else (
-    if opcode == opcodes.clean_unique then Some (kind_flit kinds.CleanUnique fields) else (
-    if opcode == opcodes.make_unique then Some (other_kind_flit others.MakeUnique fields) else (
-    if opcode == opcodes.clean_shared then Some (other_kind_flit others.CleanShared fields) else (
-    if opcode == opcodes.clean_invalid then Some (other_kind_flit others.CleanInvalid fields) else (
-    if opcode == opcodes.make_invalid then Some (other_kind_flit others.MakeInvalid fields) else (
-    if opcode == opcodes.evict then Some (kind_flit kinds.Evict fields) else (
-    if opcode == opcodes.write_back_full then Some (kind_flit kinds.WriteBackFull fields) else (
-    if opcode == opcodes.write_clean_full then Some (kind_flit kinds.WriteCleanFull fields) else (
-    if opcode == opcodes.write_evict_full then Some (kind_flit kinds.WriteEvictFull fields) else (
-    if opcode == opcodes.write_unique_full then Some (other_kind_flit others.WriteUniqueFull fields) else (
-    if opcode == opcodes.other_request then Some (any.UnknownRequest own fields) else None)))))))))))))))
+    if opcode == opcodes.READ_NOT_SHARED_DIRTY then Some (kind_flit kinds.ReadNotSharedDirty fields) else (
+    if opcode == opcodes.READ_SHARED then Some (kind_flit kinds.ReadShared fields) else (
+    if opcode == opcodes.READ_CLEAN then Some (other_kind_flit others.ReadClean fields) else (
+    if opcode == opcodes.READ_ONCE then Some (other_kind_flit others.ReadOnce fields) else (
+    if opcode == opcodes.READ_UNIQUE then Some (kind_flit kinds.ReadUnique fields) else (
+    if opcode == opcodes.CLEAN_UNIQUE then Some (kind_flit kinds.CleanUnique fields) else (
+    if opcode == opcodes.MAKE_UNIQUE then Some (other_kind_flit others.MakeUnique fields) else (
+    if opcode == opcodes.CLEAN_SHARED then Some (other_kind_flit others.CleanShared fields) else (
+    if opcode == opcodes.CLEAN_INVALID then Some (other_kind_flit others.CleanInvalid fields) else (
+    if opcode == opcodes.MAKE_INVALID then Some (other_kind_flit others.MakeInvalid fields) else (
+    if opcode == opcodes.EVICT then Some (kind_flit kinds.Evict fields) else (
+    if opcode == opcodes.WRITE_BACK_FULL then Some (kind_flit kinds.WriteBackFull fields) else (
+    if opcode == opcodes.WRITE_CLEAN_FULL then Some (kind_flit kinds.WriteCleanFull fields) else (
+    if opcode == opcodes.WRITE_EVICT_FULL then Some (kind_flit kinds.WriteEvictFull fields) else (
+    if opcode == opcodes.WRITE_UNIQUE_FULL then Some (other_kind_flit others.WriteUniqueFull fields) else (
+    if opcode == opcodes.OTHER_REQUEST then Some (any.UnknownRequest own fields) else None)))))))))))))))
 
 abbrev pub requesting : ℕ → Option RequestFields → Option AnyFlit
 requesting opcode None = None
@@ -135,34 +134,25 @@ other_asking_flit snoop fields = any.Snoop snoop fields
 
 abbrev pub snoop_flit : ℕ → SnoopFields → Option AnyFlit
 snoop_flit opcode fields =
-    if opcode == opcodes.snp_once then Some (other_asking_flit other_snoops.SnpOnce fields) else (
-    if opcode == opcodes.snp_clean then Some (other_asking_flit other_snoops.SnpClean fields) else (
-    if opcode == opcodes.snp_shared then Some (asking_flit snoops.SnpShared fields) else (
-    if opcode == opcodes.snp_not_shared_dirty then Some (asking_flit snoops.SnpNotSharedDirty fields) else (
-    if opcode == opcodes.snp_clean_shared then Some (other_asking_flit other_snoops.SnpCleanShared fields) else (
-    if opcode == opcodes.snp_unique then Some (asking_flit snoops.SnpUnique fields) else (
-    if opcode == opcodes.snp_clean_invalid then Some (asking_flit snoops.SnpCleanInvalid fields) else (
-    if opcode == opcodes.snp_make_invalid then Some (other_asking_flit other_snoops.SnpMakeInvalid fields) else (
-    if opcode == opcodes.other_snoop then Some (any.UnknownSnoop own fields) else None))))))))
+    if opcode == opcodes.SNP_ONCE then Some (other_asking_flit other_snoops.SnpOnce fields) else (
+    if opcode == opcodes.SNP_CLEAN then Some (other_asking_flit other_snoops.SnpClean fields) else (
+    if opcode == opcodes.SNP_SHARED then Some (asking_flit snoops.SnpShared fields) else (
+    if opcode == opcodes.SNP_NOT_SHARED_DIRTY then Some (asking_flit snoops.SnpNotSharedDirty fields) else (
+    if opcode == opcodes.SNP_CLEAN_SHARED then Some (other_asking_flit other_snoops.SnpCleanShared fields) else (
+    if opcode == opcodes.SNP_UNIQUE then Some (asking_flit snoops.SnpUnique fields) else (
+    if opcode == opcodes.SNP_CLEAN_INVALID then Some (asking_flit snoops.SnpCleanInvalid fields) else (
+    if opcode == opcodes.SNP_MAKE_INVALID then Some (other_asking_flit other_snoops.SnpMakeInvalid fields) else (
+    if opcode == opcodes.OTHER_SNOOP then Some (any.UnknownSnoop own fields) else None))))))))
 
 -- responses and credits
-abbrev pub retrying : ChiSeen → PcrdType → Flit
-retrying s pcrd = flits.RetryAck pcrd (transaction_at s)
+abbrev pub retrying : ChiSeen → PcrdType → AnyFlit
+retrying s pcrd = any.Profile (flits.RetryAck pcrd (transaction_at s))
 
-abbrev pub retry_flit : ChiSeen → Option Flit
-retry_flit s = option_map (retrying s) (pcrd_at s.credit)
+abbrev pub granting : ChiSeen → PcrdType → AnyFlit
+granting s pcrd = any.Profile (flits.PCrdGrant pcrd (record { 0 = s.target }))
 
-abbrev pub granting : ChiSeen → PcrdType → Flit
-granting s pcrd = flits.PCrdGrant pcrd (record { 0 = s.target })
-
-abbrev pub grant_flit : ChiSeen → Option Flit
-grant_flit s = option_map (granting s) (pcrd_at s.credit)
-
-abbrev pub returning : ChiSeen → PcrdType → Flit
-returning s pcrd = flits.PCrdReturn pcrd (record { 0 = s.target })
-
-abbrev pub return_flit : ChiSeen → Option Flit
-return_flit s = option_map (returning s) (pcrd_at s.credit)
+abbrev pub returning : ChiSeen → PcrdType → AnyFlit
+returning s pcrd = any.Profile (flits.PCrdReturn pcrd (record { 0 = s.target }))
 
 abbrev pub completion_of : Resp → Option DbId → Transaction → AnyFlit
 completion_of UC (Some dbid) t = any.Profile (flits.CompUC dbid t)
@@ -175,31 +165,21 @@ completing s resp = completion_of resp (dbid_named s) (transaction_at s)
 abbrev pub completion_flit : ChiSeen → Option AnyFlit
 completion_flit s = option_map (completing s) (resp_at s.resp)
 
-abbrev pub buffering : ChiSeen → DbId → Flit
-buffering s dbid = flits.CompDBIDResp dbid (transaction_at s)
+abbrev pub buffering : ChiSeen → DbId → AnyFlit
+buffering s dbid = any.Profile (flits.CompDBIDResp dbid (transaction_at s))
 
-abbrev pub buffer_flit : ChiSeen → Option Flit
-buffer_flit s = option_map (buffering s) (dbid_named s)
-
-abbrev pub answering : ChiSeen → Resp → Flit
-answering s resp = flits.SnpResp resp (transaction_at s)
-
-abbrev pub answer_flit : ChiSeen → Option Flit
-answer_flit s = option_map (answering s) (resp_at s.resp)
-
-abbrev pub profile_if : Option Flit → Option AnyFlit
-profile_if None = None
-profile_if (Some flit) = Some (any.Profile flit)
+abbrev pub answering : ChiSeen → Resp → AnyFlit
+answering s resp = any.Profile (flits.SnpResp resp (transaction_at s))
 
 abbrev pub response_at : ChiSeen → Option AnyFlit
 response_at s =
-    if s.opcode == opcodes.pcrd_return then profile_if (return_flit s) else (
-    if s.opcode == opcodes.retry_ack then profile_if (retry_flit s) else (
-    if s.opcode == opcodes.comp then completion_flit s else (
-    if s.opcode == opcodes.comp_dbid_resp then profile_if (buffer_flit s) else (
-    if s.opcode == opcodes.pcrd_grant then profile_if (grant_flit s) else (
-    if s.opcode == opcodes.snp_resp then profile_if (answer_flit s) else (
-    if s.opcode == opcodes.comp_ack then Some (any.Profile (flits.CompAck (transaction_at s))) else None))))))
+    if s.opcode == opcodes.PCRD_RETURN then option_map (returning s) (pcrd_at s.credit) else (
+    if s.opcode == opcodes.RETRY_ACK then option_map (retrying s) (pcrd_at s.credit) else (
+    if s.opcode == opcodes.COMP then completion_flit s else (
+    if s.opcode == opcodes.COMP_DBID_RESP then option_map (buffering s) (dbid_named s) else (
+    if s.opcode == opcodes.PCRD_GRANT then option_map (granting s) (pcrd_at s.credit) else (
+    if s.opcode == opcodes.SNP_RESP then option_map (answering s) (resp_at s.resp) else (
+    if s.opcode == opcodes.COMP_ACK then Some (any.Profile (flits.CompAck (transaction_at s))) else None))))))
 
 -- data
 abbrev pub read_of : Resp → Option DbId → Transaction → Beat → AnyFlit
@@ -208,10 +188,10 @@ read_of resp None t beat = any.CompData resp t beat
 
 abbrev pub data_of : ChiSeen → Resp → Beat → Option AnyFlit
 data_of s resp beat =
-    if s.opcode == opcodes.comp_data then Some (read_of resp (dbid_named s) (transaction_at s) beat) else (
-    if s.opcode == opcodes.snp_resp_data then Some (any.Profile (flits.SnpRespData resp (transaction_at s) beat)) else (
-    if s.opcode == opcodes.copy_back_wr_data then Some (any.Profile (flits.CopyBackWrData resp (transaction_at s) beat)) else (
-    if s.opcode == opcodes.non_copy_back_wr_data then Some (any.NonCopyBackWrData resp (transaction_at s) beat) else None)))
+    if s.opcode == opcodes.COMP_DATA then Some (read_of resp (dbid_named s) (transaction_at s) beat) else (
+    if s.opcode == opcodes.SNP_RESP_DATA then Some (any.Profile (flits.SnpRespData resp (transaction_at s) beat)) else (
+    if s.opcode == opcodes.COPY_BACK_WR_DATA then Some (any.Profile (flits.CopyBackWrData resp (transaction_at s) beat)) else (
+    if s.opcode == opcodes.NON_COPY_BACK_WR_DATA then Some (any.NonCopyBackWrData resp (transaction_at s) beat) else None)))
 
 abbrev pub data_with : ChiSeen → Option Resp → Option Beat → Option AnyFlit
 data_with s None beat = None
@@ -226,13 +206,13 @@ abbrev pub is_between : ℕ → ℕ → ℕ → Bool
 is_between first last n = nat_le first n && nat_le n last
 
 abbrev pub row_of : ℕ → OtherOpcode
-row_of n = record { 0 = n - opcodes.req_lcrd_return }
+row_of n = record { 0 = n - opcodes.REQ_LCRD_RETURN }
 
 abbrev pub unjudged_request : ChiSeen → Option AnyFlit
 unjudged_request s = option_map (λ fields. any.UnknownRequest (row_of s.opcode) fields) (request_fields_at s)
 
 abbrev pub is_unjudged_answer : ℕ → Bool
-is_unjudged_answer n = n == opcodes.snp_resp_fwded || is_between opcodes.snp_resp_data_ptl opcodes.snp_resp_data_fwded n
+is_unjudged_answer n = n == opcodes.SNP_RESP_FWDED || is_between opcodes.SNP_RESP_DATA_PTL opcodes.SNP_RESP_DATA_FWDED n
 
 abbrev pub unjudged_reply : ChiSeen → AnyFlit
 unjudged_reply s =
@@ -242,30 +222,30 @@ unjudged_reply s =
 
 abbrev pub unjudged_at : ChiSeen → Option AnyFlit
 unjudged_at s =
-    if is_between opcodes.req_lcrd_return opcodes.prefetch_tgt s.opcode then unjudged_request s else (
-    if is_between opcodes.snp_lcrd_return opcodes.snp_unique_fwd s.opcode then Some (any.UnknownSnoop (row_of s.opcode) (snoop_fields_at s)) else (
-    if is_between opcodes.resp_lcrd_return opcodes.write_data_cancel s.opcode then Some (unjudged_reply s) else None))
+    if is_between opcodes.REQ_LCRD_RETURN opcodes.PREFETCH_TGT s.opcode then unjudged_request s else (
+    if is_between opcodes.SNP_LCRD_RETURN opcodes.SNP_UNIQUE_FWD s.opcode then Some (any.UnknownSnoop (row_of s.opcode) (snoop_fields_at s)) else (
+    if is_between opcodes.RESP_LCRD_RETURN opcodes.WRITE_DATA_CANCEL s.opcode then Some (unjudged_reply s) else None))
 
 -- loads and stores, and what has no number of its own
 abbrev pub other_at : ChiSeen → Option AnyFlit
 other_at s =
-    if s.opcode == opcodes.load then Some (any.Profile (flits.Load (record { 0 = s.address }) (slice_index_or s.words 0 0))) else (
-    if s.opcode == opcodes.store then Some (any.Profile (flits.Store (record { 0 = s.address }) (slice_index_or s.words 0 0))) else (
-    if s.opcode == opcodes.other_answer then Some (any.UnknownAnswer own (transaction_at s)) else (
-    if s.opcode == opcodes.other_reply then Some (any.UnknownReply own (transaction_at s) (dbid_named s)) else unjudged_at s)))
+    if s.opcode == opcodes.LOAD then Some (any.Profile (flits.Load (record { 0 = s.address }) (slice_index_or s.words 0 0))) else (
+    if s.opcode == opcodes.STORE then Some (any.Profile (flits.Store (record { 0 = s.address }) (slice_index_or s.words 0 0))) else (
+    if s.opcode == opcodes.OTHER_ANSWER then Some (any.UnknownAnswer own (transaction_at s)) else (
+    if s.opcode == opcodes.OTHER_REPLY then Some (any.UnknownReply own (transaction_at s) (dbid_named s)) else unjudged_at s)))
 
 -- each opcode by its channel
 abbrev pub is_request : ℕ → Bool
-is_request n = is_between opcodes.read_not_shared_dirty opcodes.write_unique_full n || n == opcodes.other_request
+is_request n = is_between opcodes.READ_NOT_SHARED_DIRTY opcodes.WRITE_UNIQUE_FULL n || n == opcodes.OTHER_REQUEST
 
 abbrev pub is_snoop : ℕ → Bool
-is_snoop n = is_between opcodes.snp_once opcodes.snp_make_invalid n || n == opcodes.other_snoop
+is_snoop n = is_between opcodes.SNP_ONCE opcodes.SNP_MAKE_INVALID n || n == opcodes.OTHER_SNOOP
 
 abbrev pub is_response : ℕ → Bool
-is_response n = n == opcodes.pcrd_return || is_between opcodes.retry_ack opcodes.comp_ack n
+is_response n = n == opcodes.PCRD_RETURN || is_between opcodes.RETRY_ACK opcodes.COMP_ACK n
 
 abbrev pub is_data : ℕ → Bool
-is_data n = is_between opcodes.comp_data opcodes.non_copy_back_wr_data n
+is_data n = is_between opcodes.COMP_DATA opcodes.NON_COPY_BACK_WR_DATA n
 
 abbrev pub flit_at : ChiSeen → Option AnyFlit
 flit_at s =

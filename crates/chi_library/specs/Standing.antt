@@ -19,7 +19,7 @@ use Rattle.chi_slice.specs.Servings.{AwaitingCompAck, Snooping}
 use Rattle.chi_slice.specs.Words.{Cells, Flit, LineState, Serving, cell_of, cells_of, completion_message, flit, flit_of, snoop_flits}
 use Rattle.chi_library.specs.declared.flits.ChiFlit.{ChiFlit}
 use Rattle.chi_library.specs.declared.flits.ChiSent.{ChiSent}
-use Rattle.chi_library.specs.Messages as numbers
+use Rattle.chi_library.specs.declared.messages.TheConstants as numbers
 use Rattle.chi_library.specs.Flits.{data_told, no_sent, sent_told}
 
 abbrev pub opened_sent : Agent → ℕ → ChiSent
@@ -58,7 +58,7 @@ ack_standing agent = flit agent (messages.RspUp CompAck) ∷ []
 
 -- the CompAck that a completion is answered by, if it is
 abbrev pub ack_due : Agent → ℕ → List Flit
-ack_due agent message = if message == numbers.comp_uc then ack_standing agent else []
+ack_due agent message = if message == numbers.COMP_UC then ack_standing agent else []
 
 -- what stands on a channel between an agent and the home
 abbrev pub cell_standing : Agent → Cells → Channel → List Flit
@@ -76,7 +76,7 @@ start_standing agent other awaited cells = cell_standing agent cells (down_on ce
 -- the data of a completion that an answer brought: that of SnpRespData_SD where the answer was that, else the memory
 -- after it
 abbrev pub words_due : ChiFlit → List ℕ → List ℕ
-words_due taken memory = if taken.message == numbers.snp_resp_data_sd then taken.words else memory
+words_due taken memory = if taken.message == numbers.SNP_RESP_DATA_SD then taken.words else memory
 
 -- the completion that an answer brought, by what the home served before it and what it serves after it
 abbrev pub completed_standing : Serving → Agent → Kind → Bool → List ℕ → List Flit

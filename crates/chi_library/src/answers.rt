@@ -2,6 +2,7 @@
 
 ghost use Rattle.std.specs.Prelude.{◌≡◌};
 ghost use Rattle.chi_library.specs.Numbers.{number_if};
+ghost use Rattle.chi_library.specs.SavedSlices.{AreBytesTold};
 
 use chi_flit::Refusal;
 
@@ -61,4 +62,17 @@ pub(crate) fn number_if(refusal: Option<Refusal>) -> u8
         Some(refusal) => refusal.number(),
         None => DONE,
     }
+}
+
+/// Copies bytes into a room, where there is room for all of them, and says how many they are.
+pub(crate) fn tell_bytes(told: &[u8], bytes: &mut [u8], length: &mut usize) -> u8
+    ensures { AreBytesTold told.now bytes.old result bytes.new length.new }
+{
+    let count = told.len();
+    *length = count;
+    if bytes.len() < count {
+        return NO_ROOM;
+    }
+    bytes[..count].copy_from_slice(told);
+    DONE
 }

@@ -41,9 +41,7 @@ pub use monitor_told::{ChiFault, ChiOpen};
 pub use node_handle::ChiNode;
 pub use node_told::{ChiArrival, ChiAudit, ChiCredits, ChiRelease, ChiTotals};
 pub use observer_handle::ChiObserver;
-pub use observer_told::{
-    ChiAccount, ChiObserverConfig, ChiObserverCounts, ChiObserverFault, ChiOpenId,
-};
+pub use observer_told::{ChiObserverConfig, ChiObserverCounts, ChiObserverFault, ChiUnjudged};
 pub use records::ChiRecord;
 pub use seen_flits::ChiSeen;
 pub use sizes::ChiConfig;

@@ -4,11 +4,10 @@ ghost use Rattle.std.specs.Prelude.{◌≡◌, IfOk, None, Some, replicate};
 ghost use Rattle.chi_library.specs.Calls.{IsOpeningCall, answer_number, output_of};
 ghost use Rattle.chi_library.specs.MonitorCalls.{IsExplainedAs, IsExplainedIf, IsFlitAnswered, IsTakenAs, IsMonitorOf, all_open_told, fault_told, IsTextTold, config_in, watched_refusal, monitor_config, no_fault, none_open};
 ghost use Rattle.chi_library.specs.Numbers.{number_if};
-ghost use Rattle.chi_library.specs.SavedSlices.{AreBytesTold};
 ghost use Rattle.chi_library.specs.Observed.{observed_of};
 ghost use Rattle.chi_monitor.specs.Watched.{open_flits_at, opening_monitor};
 
-use crate::answers::{ALREADY_OPEN, CLOSED, DONE, NO_MEMORY, NO_ROOM, OUT_OF_RANGE};
+use crate::answers::{ALREADY_OPEN, CLOSED, DONE, NO_MEMORY, OUT_OF_RANGE, tell_bytes};
 use crate::flits::ChiSent;
 use crate::monitor_handle::ChiMonitor;
 use crate::monitor_told::{
@@ -255,7 +254,7 @@ fn text_into(alloc: Global, monitor: &Monitor<Global>, bytes: &mut [u8], length:
     ensures { IsTextTold (Some monitor.now) bytes.old result bytes.new length.new }
 {
     match fault_text(alloc, monitor.fault()) {
-        Ok(text) => tell_text(text.as_bytes(), bytes, length),
+        Ok(text) => tell_bytes(text.as_bytes(), bytes, length),
         Err(_) => NO_MEMORY,
     }
 }
@@ -274,19 +273,6 @@ fn fault_text(alloc: Global, fault: Option<FirstFault>) -> Result<String, NoMemo
         write!(text, "{reason}")?;
     }
     Ok(text)
-}
-
-/// Copies a text into a room.
-fn tell_text(text: &[u8], bytes: &mut [u8], length: &mut usize) -> u8
-    ensures { AreBytesTold text.now bytes.old result bytes.new length.new }
-{
-    let count = text.len();
-    *length = count;
-    if bytes.len() < count {
-        return NO_ROOM;
-    }
-    bytes[..count].copy_from_slice(text);
-    DONE
 }
 
 /// Takes a flit.

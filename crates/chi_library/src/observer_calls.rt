@@ -3,20 +3,16 @@
 ghost use Rattle.std.specs.Prelude.{◌≡◌, IfOk, None, Some, option_map};
 ghost use Rattle.chi_observe.specs.Benches.{benched};
 ghost use Rattle.chi_library.specs.Calls.{IsOpeningCall, answer_number, output_of};
-ghost use Rattle.chi_library.specs.MonitorCalls.{watched_refusal};
-ghost use Rattle.chi_library.specs.Numbers.{number_if};
-ghost use Rattle.chi_library.specs.ObserverCalls.{IsFaultTold, IsFaultTextTold, IsObserverOf, IsSeenAnswered, IsSeenAs, IsUnjudgedTextOf, IsUnjudgedTextTold, account_in, account_if, closing_number, counts_in, id_if, id_in, told_in, unjudged_in};
-ghost use Rattle.chi_library.specs.ObserverTold.{ended_number, no_account, no_counts, no_id, nothing_unjudged, opening_at};
-ghost use Rattle.chi_library.specs.SavedSlices.{AreBytesTold};
+ghost use Rattle.chi_library.specs.ObserverCalls.{IsFaultTold, IsFaultTextTold, IsObserverOf, IsSeenAnswered, IsSeenAs, IsUnjudgedTextOf, IsUnjudgedTextTold, closing_number, counts_in, told_in, unjudged_in};
+ghost use Rattle.chi_library.specs.ObserverTold.{ended_number, no_counts, nothing_unjudged, opening_at};
 ghost use Rattle.chi_library.specs.SeenFlits.{seen_of};
 ghost use Rattle.chi_library.specs.Snapshots.{IsCopied};
 
-use crate::answers::{ALREADY_OPEN, CLOSED, DONE, NO_MEMORY, NO_ROOM, OUT_OF_RANGE};
+use crate::answers::{ALREADY_OPEN, CLOSED, DONE, NO_MEMORY, OUT_OF_RANGE, tell_bytes};
 use crate::observer_handle::ChiObserver;
 use crate::observer_told::{
-    ChiAccount, ChiObserverConfig, ChiObserverCounts, ChiObserverFault, ChiOpenId, ChiUnjudged,
-    Opening, account_told, counts_told, ended_number, fault_told, id_told, judged_number,
-    opening_at, unjudged_told,
+    ChiObserverConfig, ChiObserverCounts, ChiObserverFault, ChiUnjudged, Opening, counts_told,
+    ended_number, fault_told, judged_number, opening_at, unjudged_told,
 };
 use crate::seen_flits::{ChiSeen, seen_at};
 use chi_flit::NoMemory;
@@ -199,61 +195,6 @@ pub extern "C" fn chi_observer_unjudged_text(
     }
 }
 
-/// Tells the id of a place among those that are held, from 0.
-///
-/// Answers 10 behind their end; all numbers are 0 then. Answers 255 of a closed handle. Nothing changes.
-/// Source: `docs/LIBRARY.md`, "An observer".
-#[unsafe(no_mangle)]
-pub extern "C" fn chi_observer_opened(
-    alloc: Global,
-    observer: &mut ChiObserver,
-    place: u32,
-    id: &mut ChiOpenId,
-) -> u8
-    ensures answer { result
-        ≡ answer_number observer.old.value (λ b. watched_refusal (id_in b place)) }
-    ensures after { observer.new.value ≡ observer.old.value }
-    ensures id { id.new ≡ output_of observer.old.value no_id (λ b. id_if b (id_in b place)) }
-{
-    *id = ChiOpenId::NONE;
-    match observer.take(alloc) {
-        Some(held) => {
-            let answer = tell_id(&held, place, id);
-            observer.put(held);
-            answer
-        }
-        None => CLOSED,
-    }
-}
-
-/// Tells the account of a place among those that are held, from 0.
-///
-/// Answers 10 behind their end; all numbers are 0 then. Answers 255 of a closed handle. Nothing changes.
-/// Source: `docs/LIBRARY.md`, "An observer".
-#[unsafe(no_mangle)]
-pub extern "C" fn chi_observer_account(
-    alloc: Global,
-    observer: &mut ChiObserver,
-    place: u32,
-    account: &mut ChiAccount,
-) -> u8
-    ensures answer { result
-        ≡ answer_number observer.old.value (λ b. watched_refusal (account_in b place)) }
-    ensures after { observer.new.value ≡ observer.old.value }
-    ensures account { account.new
-        ≡ output_of observer.old.value no_account (λ b. account_if (account_in b place)) }
-{
-    *account = ChiAccount::NONE;
-    match observer.take(alloc) {
-        Some(held) => {
-            let answer = tell_account(&held, place, account);
-            observer.put(held);
-            answer
-        }
-        None => CLOSED,
-    }
-}
-
 /// Copies the observer of `from`: `to` holds an observer that is the same, and each goes on by itself. What `to` held before
 /// is closed. All memory that the copy ever needs is taken here.
 ///
@@ -410,48 +351,5 @@ fn text_into(
     match observer.fault_text(alloc) {
         Ok(text) => tell_bytes(text.as_bytes(), bytes, length),
         Err(_) => NO_MEMORY,
-    }
-}
-
-/// Copies a text into a room.
-fn tell_bytes(text: &[u8], bytes: &mut [u8], length: &mut usize) -> u8
-    ensures { AreBytesTold text.now bytes.old result bytes.new length.new }
-{
-    let count = text.len();
-    *length = count;
-    if bytes.len() < count {
-        return NO_ROOM;
-    }
-    bytes[..count].copy_from_slice(text);
-    DONE
-}
-
-/// Tells the id of a place.
-fn tell_id(observer: &BenchWatch<Global>, place: u32, id: &mut ChiOpenId) -> u8
-    requires { id.old ≡ no_id }
-    ensures answer { result ≡ number_if (watched_refusal (id_in observer.now place)) }
-    ensures id { id.new ≡ id_if observer.now (id_in observer.now place) }
-{
-    match observer.id_at(place as usize) {
-        Some(held) => {
-            *id = id_told(&held, observer.is_id_open(&held));
-            DONE
-        }
-        None => OUT_OF_RANGE,
-    }
-}
-
-/// Tells the account of a place.
-fn tell_account(observer: &BenchWatch<Global>, place: u32, account: &mut ChiAccount) -> u8
-    requires { account.old ≡ no_account }
-    ensures answer { result ≡ number_if (watched_refusal (account_in observer.now place)) }
-    ensures account { account.new ≡ account_if (account_in observer.now place) }
-{
-    match observer.account_at(place as usize) {
-        Some(held) => {
-            *account = account_told(&held);
-            DONE
-        }
-        None => OUT_OF_RANGE,
     }
 }

@@ -1,25 +1,18 @@
 //! What the calls on an observer are told and tell, in C's words.
 
-ghost use Rattle.std.specs.Prelude.{◌≡◌, ◌≤◌};
-ghost use Rattle.chi_ids.specs.Keys.{sides_of};
+ghost use Rattle.std.specs.Prelude.{◌≡◌};
 ghost use Rattle.chi_observe.specs.Told.{is_nothing_judged, is_unjudged};
-ghost use Rattle.chi_library.specs.ObserverTold.{account_told, aside_line, aside_number, bit, counts_told, early_at, ended_number, facts_told, fault_told, id_reason_number, id_told, is_size, judged_number, key_form, key_number, kind_number, lacks_mask, least, least_byte, line_address, line_number, line_reason_number, mask_of, opening_at, purpose_number, reason_number, room_at, rule_number, snoop_number, stores_at, type_number, types_at, unjudged_told};
+ghost use Rattle.chi_library.specs.ObserverTold.{counts_told, early_at, ended_number, facts_told, fault_told, id_reason_number, is_size, judged_number, least, least_byte, line_address, line_number, line_reason_number, opening_at, reason_number, room_at, rule_number, stores_at, types_at, unjudged_told};
 
 use crate::answers::{DONE, FAULT, FULL, NO_MEMORY, NOTHING_JUDGED, PARTLY_JUDGED, SET_ASIDE};
 use crate::numbers::flag_number;
-use crate::opcodes::{
-    CLEAN_INVALID, CLEAN_SHARED, CLEAN_UNIQUE, EVICT, MAKE_INVALID, MAKE_UNIQUE, NO_OPCODE,
-    READ_CLEAN, READ_NOT_SHARED_DIRTY, READ_ONCE, READ_SHARED, READ_UNIQUE, SNP_CLEAN,
-    SNP_CLEAN_INVALID, SNP_CLEAN_SHARED, SNP_MAKE_INVALID, SNP_NOT_SHARED_DIRTY, SNP_ONCE,
-    SNP_SHARED, SNP_UNIQUE, WRITE_BACK_FULL, WRITE_CLEAN_FULL, WRITE_EVICT_FULL, WRITE_UNIQUE_FULL,
-};
-use chi_ids::{CacheLine, IdKey, Sides};
+use chi_ids::CacheLine;
 use chi_observe::{
-    Account, Aside, Counts, CreditTypes, FaultFacts, IdReason, Judged, LineReason, Log, OpenId,
-    Purpose, Room, Tally, WatchFault, WatchOptions,
+    Counts, CreditTypes, FaultFacts, IdReason, Judged, LineReason, Log, Room, Tally, WatchFault,
+    WatchOptions,
 };
-use chi_observer::{Kind, Reason, Snoop, Stores};
-use chi_trace::{PcrdType, TraceForm};
+use chi_observer::{Reason, Stores};
+use chi_trace::TraceForm;
 
 /// What an observer is opened for: `ChiObserverConfig` of `chihome.h`. `reserved` is padding in C, and isn't read.
 /// Source: `docs/LIBRARY.md`, "An observer".
@@ -60,8 +53,6 @@ pub struct ChiObserverCounts {
     pub accesses: u64,
     pub lines: u64,
     pub aside: u64,
-    pub aside_number: u64,
-    pub aside_line: u64,
     pub ids: u32,
     pub accounts: u32,
     pub requests: u32,
@@ -85,41 +76,6 @@ pub struct ChiUnjudged {
     pub of_lines: u64,
     pub accesses: u64,
     pub of_accesses: u64,
-}
-
-/// An id that an observer holds: `ChiOpenId` of `chihome.h`. `reserved` is padding in C.
-/// Source: `docs/LIBRARY.md`, "An observer".
-#[repr(C)]
-#[derive(Clone, Copy)]
-pub struct ChiOpenId {
-    pub line: u64,
-    pub since: u64,
-    pub node: u16,
-    pub home: u16,
-    pub id: u16,
-    pub form: u8,
-    pub opcode: u8,
-    pub is_open: u8,
-    pub lacks: u8,
-    pub waits: u8,
-    pub reserved: [u8; 5],
-}
-
-/// The credits of a type of a requester from a home: `ChiAccount` of `chihome.h`. `reserved` is padding in C.
-/// Source: `docs/LIBRARY.md`, "An observer".
-#[repr(C)]
-#[derive(Clone, Copy)]
-pub struct ChiAccount {
-    pub promised: u64,
-    pub granted: u64,
-    pub spent: u64,
-    pub returned: u64,
-    pub owed: u64,
-    pub unused: u64,
-    pub node: u16,
-    pub home: u16,
-    pub credit: u8,
-    pub reserved: [u8; 3],
 }
 
 /// What an observer opens with.
@@ -148,8 +104,6 @@ impl ChiObserverCounts {
         accesses: 0,
         lines: 0,
         aside: 0,
-        aside_number: 0,
-        aside_line: 0,
         ids: 0,
         accounts: 0,
         requests: 0,
@@ -172,39 +126,6 @@ impl ChiUnjudged {
         of_lines: 0,
         accesses: 0,
         of_accesses: 0,
-    };
-}
-
-impl ChiOpenId {
-    /// No id.
-    pub(crate) const NONE: ChiOpenId = ChiOpenId {
-        line: 0,
-        since: 0,
-        node: 0,
-        home: 0,
-        id: 0,
-        form: 0,
-        opcode: NO_OPCODE,
-        is_open: 0,
-        lacks: 0,
-        waits: 0,
-        reserved: [0; 5],
-    };
-}
-
-impl ChiAccount {
-    /// No account.
-    pub(crate) const NONE: ChiAccount = ChiAccount {
-        promised: 0,
-        granted: 0,
-        spent: 0,
-        returned: 0,
-        owed: 0,
-        unused: 0,
-        node: 0,
-        home: 0,
-        credit: 0,
-        reserved: [0; 3],
     };
 }
 
@@ -361,30 +282,6 @@ fn reason_number(fault: WatchFault) -> u8
     }
 }
 
-/// What names by a key.
-fn key_form(key: IdKey) -> u8
-    ensures { result ≡ key_form key }
-{
-    match key {
-        IdKey::Request(_, _) => 1,
-        IdKey::Buffer(_, _) => 2,
-        IdKey::Snoop(_, _) => 3,
-        IdKey::Retried(_, _) => 4,
-    }
-}
-
-/// The number of a key.
-fn key_number(key: IdKey) -> u16
-    ensures { result ≡ key_number key }
-{
-    match key {
-        IdKey::Request(_, txn) => txn.0,
-        IdKey::Buffer(_, dbid) => dbid.0,
-        IdKey::Snoop(_, txn) => txn.0,
-        IdKey::Retried(_, _) => 0,
-    }
-}
-
 /// The address of the first byte of a line.
 fn line_address(line: CacheLine) -> u64
     ensures { result ≡ line_address line }
@@ -400,23 +297,6 @@ fn line_number(line: Option<CacheLine>) -> u64
         Some(line) => line_address(line),
         None => 0,
     }
-}
-
-/// What a bit is worth that is set, or isn't.
-fn bit(is_set: bool, worth: u8) -> u8
-    ensures is { result ≡ bit is_set worth }
-    ensures most { result ≤ worth }
-{
-    if is_set { worth } else { 0 }
-}
-
-/// The bits of eight words.
-fn mask_of(words: &[bool; 8]) -> u8
-    ensures { result ≡ mask_of words.now }
-{
-    let low = bit(words[0], 1) + bit(words[1], 2) + bit(words[2], 4) + bit(words[3], 8);
-    let high = bit(words[4], 16) + bit(words[5], 32) + bit(words[6], 64) + bit(words[7], 128);
-    low + high
 }
 
 /// What is told of the first flit that isn't taken.
@@ -457,26 +337,6 @@ fn least_byte(number: usize) -> u8
     number.min(255) as u8
 }
 
-/// The number of the flit that set the first line aside.
-fn aside_number(aside: Option<Aside>) -> u64
-    ensures { result ≡ aside_number aside }
-{
-    match aside {
-        Some(aside) => aside.number as u64,
-        None => 0,
-    }
-}
-
-/// The address of that line.
-fn aside_line(aside: Option<Aside>) -> u64
-    ensures { result ≡ aside_line aside }
-{
-    match aside {
-        Some(aside) => line_address(aside.line),
-        None => 0,
-    }
-}
-
 /// How much an observer has seen, and what it holds.
 pub(crate) fn counts_told(tally: &Tally) -> ChiObserverCounts
     ensures { result ≡ counts_told tally.now }
@@ -487,8 +347,6 @@ pub(crate) fn counts_told(tally: &Tally) -> ChiObserverCounts
         accesses: counts.accesses,
         lines: counts.lines,
         aside: counts.aside,
-        aside_number: aside_number(counts.first_aside),
-        aside_line: aside_line(counts.first_aside),
         ids: least(tally.ids),
         accounts: least(tally.accounts),
         requests: least(tally.requests),
@@ -541,125 +399,5 @@ pub(crate) fn ended_number(counts: &Counts) -> u8
         PARTLY_JUDGED
     } else {
         DONE
-    }
-}
-
-/// The opcode of a kind of request.
-fn kind_number(kind: Kind) -> u8
-    ensures { result ≡ kind_number kind }
-{
-    match kind {
-        Kind::ReadNotSharedDirty => READ_NOT_SHARED_DIRTY,
-        Kind::ReadShared => READ_SHARED,
-        Kind::ReadClean => READ_CLEAN,
-        Kind::ReadOnce => READ_ONCE,
-        Kind::ReadUnique => READ_UNIQUE,
-        Kind::CleanUnique => CLEAN_UNIQUE,
-        Kind::MakeUnique => MAKE_UNIQUE,
-        Kind::CleanShared => CLEAN_SHARED,
-        Kind::CleanInvalid => CLEAN_INVALID,
-        Kind::MakeInvalid => MAKE_INVALID,
-        Kind::Evict => EVICT,
-        Kind::WriteBackFull => WRITE_BACK_FULL,
-        Kind::WriteCleanFull => WRITE_CLEAN_FULL,
-        Kind::WriteEvictFull => WRITE_EVICT_FULL,
-        Kind::WriteUniqueFull => WRITE_UNIQUE_FULL,
-    }
-}
-
-/// The opcode of a snoop.
-fn snoop_number(snoop: Snoop) -> u8
-    ensures { result ≡ snoop_number snoop }
-{
-    match snoop {
-        Snoop::SnpOnce => SNP_ONCE,
-        Snoop::SnpClean => SNP_CLEAN,
-        Snoop::SnpShared => SNP_SHARED,
-        Snoop::SnpNotSharedDirty => SNP_NOT_SHARED_DIRTY,
-        Snoop::SnpCleanShared => SNP_CLEAN_SHARED,
-        Snoop::SnpUnique => SNP_UNIQUE,
-        Snoop::SnpCleanInvalid => SNP_CLEAN_INVALID,
-        Snoop::SnpMakeInvalid => SNP_MAKE_INVALID,
-    }
-}
-
-/// The opcode of what an id is open for; 0 where it isn't known.
-fn purpose_number(purpose: Purpose) -> u8
-    ensures { result ≡ purpose_number purpose }
-{
-    match purpose {
-        Purpose::Request { kind, first: _ } => kind_number(kind),
-        Purpose::Snoop(snoop) => snoop_number(snoop),
-        Purpose::Unknown { first: _ } => NO_OPCODE,
-    }
-}
-
-/// The words that an id's data lack.
-fn lacks_mask(lacks: &Option<[bool; 8]>) -> u8
-    ensures { result ≡ lacks_mask lacks.now }
-{
-    match lacks {
-        Some(lacks) => mask_of(lacks),
-        None => 0,
-    }
-}
-
-/// The type that an id waits for; 255 where it waits for none.
-fn type_number(pcrd: Option<PcrdType>) -> u8
-    ensures { result ≡ type_number pcrd }
-{
-    match pcrd {
-        Some(pcrd) => pcrd.0,
-        None => 255,
-    }
-}
-
-/// An id that is held.
-pub(crate) fn id_told(id: &OpenId, is_open: bool) -> ChiOpenId
-    ensures { result ≡ id_told id.now is_open }
-{
-    let sides = sides_of(id.key);
-    ChiOpenId {
-        line: line_address(id.line),
-        since: id.since as u64,
-        node: sides.requester.0,
-        home: sides.home.0,
-        id: key_number(id.key),
-        form: key_form(id.key),
-        opcode: purpose_number(id.purpose),
-        is_open: flag_number(is_open),
-        lacks: lacks_mask(&id.lacks),
-        waits: type_number(id.waits_for),
-        reserved: [0; 5],
-    }
-}
-
-/// An account.
-pub(crate) fn account_told(account: &Account) -> ChiAccount
-    ensures { result ≡ account_told account.now }
-{
-    ChiAccount {
-        promised: account.retried,
-        granted: account.granted,
-        spent: account.resent,
-        returned: account.returned,
-        owed: account.owed(),
-        unused: account.unused(),
-        node: account.sides.requester.0,
-        home: account.sides.home.0,
-        credit: account.pcrd.0,
-        reserved: [0; 3],
-    }
-}
-
-/// The two nodes of a key.
-fn sides_of(key: IdKey) -> Sides
-    ensures { result ≡ sides_of key }
-{
-    match key {
-        IdKey::Request(sides, _) => sides,
-        IdKey::Buffer(sides, _) => sides,
-        IdKey::Snoop(sides, _) => sides,
-        IdKey::Retried(sides, _) => sides,
     }
 }

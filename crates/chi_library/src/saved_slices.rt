@@ -8,8 +8,8 @@ ghost use Rattle.chi_snapshot.specs.Faults.{IsFaultOf};
 ghost use Rattle.chi_snapshot.specs.Snapshot.{saved};
 
 use crate::answers::{
-    ALREADY_OPEN, CLOSED, DAMAGED, DONE, NO_MEMORY, NO_ROOM, OTHER_SIZE, OTHER_VERSION,
-    OUT_OF_RANGE,
+    ALREADY_OPEN, CLOSED, DAMAGED, DONE, NO_MEMORY, OTHER_SIZE, OTHER_VERSION, OUT_OF_RANGE,
+    tell_bytes,
 };
 use crate::sizes::{ChiConfig, config_at};
 use crate::slice_handle::ChiSlice;
@@ -77,22 +77,9 @@ fn save_into(alloc: Global, slice: &Slice<Global>, bytes: &mut [u8], length: &mu
     ensures { AreBytesTold (saved slice.now) bytes.old result bytes.new length.new }
 {
     match save(slice, alloc) {
-        Ok(saved) => tell(&saved, bytes, length),
+        Ok(saved) => tell_bytes(&saved, bytes, length),
         Err(_) => NO_MEMORY,
     }
-}
-
-/// Copies bytes into a room.
-fn tell(saved: &[u8], bytes: &mut [u8], length: &mut usize) -> u8
-    ensures { AreBytesTold saved.now bytes.old result bytes.new length.new }
-{
-    let count = saved.len();
-    *length = count;
-    if bytes.len() < count {
-        return NO_ROOM;
-    }
-    bytes[..count].copy_from_slice(saved);
-    DONE
 }
 
 /// Opens a slice out of bytes in a closed handle.

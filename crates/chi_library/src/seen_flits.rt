@@ -1,7 +1,7 @@
 //! A flit that C gives an observer, as a line of a trace.
 
 ghost use Rattle.std.specs.Prelude.{◌≡◌, ◌<◌};
-ghost use Rattle.chi_library.specs.SeenFlits.{address_named, answer_flit, asking_flit, beat_at, buffer_flit, completion_flit, completion_of, data_at, data_of, dbid_named, flit_at, grant_flit, is_between, is_data, is_request, is_response, is_snoop, is_there, is_unjudged_answer, kind_flit, other_asking_flit, other_at, other_kind_flit, pcrd_at, profile_if, read_of, request_at, request_fields_at, request_fields_of, request_flit, resp_at, response_at, retry_flit, return_flit, row_of, seen_of, snoop_fields_at, snoop_flit, transaction_at, unjudged_at, unjudged_reply, unjudged_request, word_at, words_there};
+ghost use Rattle.chi_library.specs.SeenFlits.{address_named, asking_flit, beat_at, completion_flit, completion_of, data_at, data_of, dbid_named, flit_at, is_between, is_data, is_request, is_response, is_snoop, is_there, is_unjudged_answer, kind_flit, other_asking_flit, other_at, other_kind_flit, pcrd_at, read_of, request_at, request_fields_at, request_fields_of, request_flit, resp_at, response_at, row_of, seen_of, snoop_fields_at, snoop_flit, transaction_at, unjudged_at, unjudged_reply, unjudged_request, word_at, words_there};
 
 use crate::opcodes::{
     CLEAN_INVALID, CLEAN_SHARED, CLEAN_UNIQUE, COMP, COMP_ACK, COMP_DATA, COMP_DBID_RESP,
@@ -286,39 +286,6 @@ fn snoop_flit(opcode: u8, fields: SnoopFields) -> Option<AnyFlit>
     }
 }
 
-/// A RetryAck.
-fn retry_flit(seen: &ChiSeen) -> Option<Flit>
-    ensures { result ≡ retry_flit seen.now }
-{
-    let pcrd = pcrd_at(seen.credit)?;
-    Some(Flit::RetryAck {
-        pcrd,
-        transaction: transaction_at(seen),
-    })
-}
-
-/// A granted credit.
-fn grant_flit(seen: &ChiSeen) -> Option<Flit>
-    ensures { result ≡ grant_flit seen.now }
-{
-    let pcrd = pcrd_at(seen.credit)?;
-    Some(Flit::PCrdGrant {
-        pcrd,
-        target: NodeId(seen.target),
-    })
-}
-
-/// A returned credit.
-fn return_flit(seen: &ChiSeen) -> Option<Flit>
-    ensures { result ≡ return_flit seen.now }
-{
-    let pcrd = pcrd_at(seen.credit)?;
-    Some(Flit::PCrdReturn {
-        pcrd,
-        target: NodeId(seen.target),
-    })
-}
-
 /// A Comp with this RESP and DBID.
 fn completion_of(resp: Resp, dbid: Option<DbId>, transaction: Transaction) -> AnyFlit
     ensures { result ≡ completion_of resp dbid transaction }
@@ -336,28 +303,6 @@ fn completion_flit(seen: &ChiSeen) -> Option<AnyFlit>
 {
     let resp = resp_at(seen.resp)?;
     Some(completion_of(resp, dbid_named(seen), transaction_at(seen)))
-}
-
-/// A CompDBIDResp, which needs a DBID.
-fn buffer_flit(seen: &ChiSeen) -> Option<Flit>
-    ensures { result ≡ buffer_flit seen.now }
-{
-    let dbid = dbid_named(seen)?;
-    Some(Flit::CompDBIDResp {
-        dbid,
-        transaction: transaction_at(seen),
-    })
-}
-
-/// A SnpResp.
-fn answer_flit(seen: &ChiSeen) -> Option<Flit>
-    ensures { result ≡ answer_flit seen.now }
-{
-    let resp = resp_at(seen.resp)?;
-    Some(Flit::SnpResp {
-        resp,
-        transaction: transaction_at(seen),
-    })
 }
 
 /// A read's data with this DBID.
@@ -414,32 +359,37 @@ fn data_at(seen: &ChiSeen) -> Option<AnyFlit>
     data_of(seen, resp, beat)
 }
 
-/// A flit of the profile, if it is one.
-fn profile_if(flit: Option<Flit>) -> Option<AnyFlit>
-    ensures { result ≡ profile_if flit }
-{
-    match flit {
-        Some(flit) => Some(AnyFlit::Profile(flit)),
-        None => None,
-    }
-}
-
-/// A response or a credit.
+/// A response or a credit; CompDBIDResp needs a DBID.
 fn response_at(seen: &ChiSeen) -> Option<AnyFlit>
     ensures { result ≡ response_at seen.now }
 {
-    match seen.opcode {
-        PCRD_RETURN => profile_if(return_flit(seen)),
-        RETRY_ACK => profile_if(retry_flit(seen)),
-        COMP => completion_flit(seen),
-        COMP_DBID_RESP => profile_if(buffer_flit(seen)),
-        PCRD_GRANT => profile_if(grant_flit(seen)),
-        SNP_RESP => profile_if(answer_flit(seen)),
-        COMP_ACK => Some(AnyFlit::Profile(Flit::CompAck {
-            transaction: transaction_at(seen),
-        })),
-        _ => None,
-    }
+    let (target, transaction) = (NodeId(seen.target), transaction_at(seen));
+    let flit = match seen.opcode {
+        PCRD_RETURN => Flit::PCrdReturn {
+            pcrd: pcrd_at(seen.credit)?,
+            target,
+        },
+        RETRY_ACK => Flit::RetryAck {
+            pcrd: pcrd_at(seen.credit)?,
+            transaction,
+        },
+        COMP => return completion_flit(seen),
+        COMP_DBID_RESP => Flit::CompDBIDResp {
+            dbid: dbid_named(seen)?,
+            transaction,
+        },
+        PCRD_GRANT => Flit::PCrdGrant {
+            pcrd: pcrd_at(seen.credit)?,
+            target,
+        },
+        SNP_RESP => Flit::SnpResp {
+            resp: resp_at(seen.resp)?,
+            transaction,
+        },
+        COMP_ACK => Flit::CompAck { transaction },
+        _ => return None,
+    };
+    Some(AnyFlit::Profile(flit))
 }
 
 /// A load or a store, or a response or data that have no number here.
