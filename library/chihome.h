@@ -755,9 +755,6 @@ const char *chi_opcode_name(uint8_t opcode);            /* ChiOpcode: "ReadShare
 const char *chi_resp_name(uint8_t resp);                /* ChiResp: "SC_PD" */
 const char *chi_observer_reason_name(uint8_t reason);   /* ChiObserverReason: "NotOpen" */
 
-/* Why no run of the model sends a flit, in words: a ChiReason's text, and "?" of another number. */
-const char *chi_reason_text(uint8_t reason);
-
 /* The layouts that the library was proved and built with. */
 #ifdef __cplusplus
 #define CHI_LAYOUT(it) static_assert(it, #it)

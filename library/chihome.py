@@ -711,7 +711,6 @@ _CALLS = {
     "chi_state_name": (c_char_p, [c_uint8]),
     "chi_refusal_name": (c_char_p, [c_uint8]),
     "chi_reason_name": (c_char_p, [c_uint8]),
-    "chi_reason_text": (c_char_p, [c_uint8]),
     "chi_opcode_name": (c_char_p, [c_uint8]),
     "chi_resp_name": (c_char_p, [c_uint8]),
     "chi_observer_reason_name": (c_char_p, [c_uint8]),

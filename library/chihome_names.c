@@ -24,17 +24,6 @@ static const char *const REASONS[] = {"NoReason", "MemoryRanOut", "NoAgent", "Ea
     "AnswerOfCopy", "OtherWords", "NothingToComplete", "SnoopsBefore", "FormOfFilter", "NotAwaited", "FormOfCopy",
     "OtherReason", "OtherCredit"};
 
-static const char *const REASON_TEXTS[] = {"there is no fault", "memory ran out", "it is none of eight requesters",
-    "an earlier request of it to the line isn't over", "its copy isn't in a state from which this is issued",
-    "no request of this kind of it was retried", "no first attempt of it is under way",
-    "the snoops that were sent are for its request", "no request that waits asks for this snoop of it now",
-    "the home awaits a CompAck or write data there", "it was snooped for this request already",
-    "no snoop to it is unanswered", "its copy answers this snoop otherwise", "its sender has other words",
-    "no request of it that it completes waits",
-    "other agents are to be snooped and to answer first, or fewer were to be", "the model's home gives the other form",
-    "the home doesn't await it", "its copy has another form", "it isn't in the profile",
-    "its request needs a credit of another type"};
-
 static const char *const OPCODES[] = {"None", "ReadNotSharedDirty", "ReadShared", "ReadClean", "ReadOnce", "ReadUnique",
     "CleanUnique", "MakeUnique", "CleanShared", "CleanInvalid", "MakeInvalid", "Evict", "WriteBackFull", "WriteCleanFull",
     "WriteEvictFull", "WriteUniqueFull", "PCrdReturn", "SnpOnce", "SnpClean", "SnpShared", "SnpNotSharedDirty",
@@ -87,8 +76,6 @@ const char *chi_refusal_name(uint8_t answer) {
 }
 
 const char *chi_reason_name(uint8_t reason) { return NAME_IN(REASONS, reason); }
-
-const char *chi_reason_text(uint8_t reason) { return NAME_IN(REASON_TEXTS, reason); }
 
 const char *chi_opcode_name(uint8_t opcode) { return NAME_IN(OPCODES, opcode); }
 

@@ -147,6 +147,10 @@ static void answers(void) {
     ChiFault fault;
     ChiOpen open[8];
     ChiSent request = {.flit = {.message = CHI_Request, .kind = CHI_ReadShared, .allow_retry = 1}}, wrong = request;
+    static const char TEXT[] = "CHI: the home awaits no CompAck of it there";
+    uint8_t bytes[256];
+    size_t told;
+    memset(bytes, 165, sizeof bytes);
     memset(open, 255, sizeof open);
     memset(&fault, 255, sizeof fault);
     HOLDS(chi_monitor_flit(&monitor, 0, &request) == CHI_Closed && chi_monitor_fault(&monitor, &fault) == CHI_Closed);
@@ -175,8 +179,10 @@ static void answers(void) {
     wrong.flit = (ChiFlit){.message = CHI_CompAck};
     HOLDS(chi_monitor_flit(&monitor, 1, &wrong) == CHI_Fault && chi_monitor_flit(&monitor, 1, &request) == CHI_Fault);
     HOLDS(chi_monitor_fault(&monitor, &fault) == CHI_OK && fault.reason == CHI_NotAwaited && fault.number == 1);
-    HOLDS(fault.line == 1 && fault.agent == 0 && chi_monitor_close(&monitor) == CHI_OK);
-    HOLDS(monitor.at == NULL);
+    HOLDS(fault.line == 1 && fault.agent == 0 && chi_monitor_text(&monitor, bytes, 2, &told) == CHI_JournalFull);
+    HOLDS(told == sizeof TEXT - 1 && bytes[0] == 165 && chi_monitor_text(&monitor, bytes, told, &told) == CHI_OK);
+    HOLDS(memcmp(bytes, TEXT, told) == 0 && bytes[told] == 165 && chi_monitor_close(&monitor) == CHI_OK);
+    HOLDS(chi_monitor_text(&monitor, bytes, 2, &told) == CHI_Closed && told == 0 && monitor.at == NULL);
 }
 
 int main(void) {
