@@ -1,6 +1,5 @@
 /* What the handles of chihome.hpp answer: opened, moved and closed, and what the calls of a slice, of a node and of a
- * monitor give. With -DNEW_CALLS also copies, what a step sent, enabled actions, and names. The status is 0 where all
- * holds. */
+ * monitor give. The status is 0 where all holds. */
 #include "chihome.hpp"
 
 #include <cstdio>
@@ -97,7 +96,6 @@ static void node() {
     HOLDS(model.arrive(0, 0).answer() == Answer::NoFlit && model.close() == Answer::OK);
 }
 
-#ifdef NEW_CALLS
 static void copies() {
     Slice model = *Slice::open(sizes(2, 1)), closed;
     HOLDS(model.act(action(0, Step::Issue)));
@@ -140,7 +138,7 @@ static void node_flits() {
     HOLDS(closed.step_flits(action(0, Step::Load)).answer() == Answer::Closed);
 }
 
-static void new_calls() {
+static void steps() {
     Slice model = *Slice::open(sizes(2, 1));
     const Stepped issued = *model.step(action(1, Step::Issue));
     HOLDS(issued.sent.size() == 1 && issued.sent[0].agent == 1 && issued.sent[0].channel == Channel::Req && !issued.taken);
@@ -151,7 +149,6 @@ static void new_calls() {
     HOLDS(std::strcmp(name(Answer::NoFlit), "NoFlit") == 0 && std::strcmp(name(Message::CompAck), "CompAck") == 0);
     HOLDS(std::strcmp(name(Kind::Evict), "Evict") == 0 && std::strcmp(name(State::SD), "SD") == 0);
 }
-#endif
 
 static void monitor() {
     Monitor closed, watched = *Monitor::open(2, 1, 8);
@@ -181,11 +178,9 @@ int main() {
     slice();
     node();
     monitor();
-#ifdef NEW_CALLS
     copies();
     saved();
-    new_calls();
+    steps();
     node_flits();
-#endif
     return failures == 0 ? 0 : 1;
 }

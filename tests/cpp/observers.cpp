@@ -10,6 +10,7 @@
 #include <fstream>
 #include <string>
 #include <type_traits>
+#include <vector>
 
 using namespace chihome;
 
@@ -49,17 +50,74 @@ static Seen seen(const std::string &line) {
 
 static Answer take(Observer &observer, const std::string &line) { return observer.take(seen(line)); }
 
+/* A flit of a trace, and its answer. */
+struct Row {
+    const char *line;
+    Answer wanted = Answer::OK;
+};
+
+/* What an observer is given, what its first fault is, if it has one, and what its close answers. */
+struct Run {
+    ObserverConfig config;
+    std::vector<Row> rows;
+    std::optional<ObserverFault> fault;
+    Answer end = Answer::OK;
+};
+
+#define READ(node, kind, resp)                                                                                              \
+    {"REQ " node " 40 1 " kind " 1040 - - 1 - -"}, {"DAT 40 " node " 1 CompData - " resp " 11 - - 5,0,0,0,0,0,0,7"},        \
+        {"RSP " node " 40 11 CompAck - - - - - -"}
+
+static ObserverConfig listed(Stores stores) {
+    ObserverConfig config = sizes(8);
+    config.stores = stores;
+    return config;
+}
+
+static const Run RUNS[] = {
+    {sizes(8),
+     {READ("8", "ReadUnique", "UC"), {"REQ 9 40 1 ReadUnique 1040 - - 1 - -"},
+      {"DAT 40 9 1 CompData - UC 11 - - 5,0,0,0,0,0,0,7", Answer::Fault}, {"REQ 8 40 2 ReadUnique 1080 - - 1 - -", Answer::Fault}},
+     ObserverFault{ObserverReason::OtherCopy, 5, 9, 0x1040, "line 5: CompData_UC to node 9 at 1040: the copy of node 8"}},
+    {sizes(8),
+     {{"REQ 8 40 1 ReadUnique 1040 - - 1 - -"}, {"RSP 8 40 3 CompAck - - - - - -", Answer::Fault}},
+     ObserverFault{ObserverReason::NotOpen, 2, 8, {}, "line 2: CompAck of node 8: no completion with DBID 3 of it is open"}},
+    {sizes(1),
+     {{"REQ 8 40 1 ReadUnique 1040 - - 1 - -"}, {"REQ 9 40 1 ReadUnique 1080 - - 1 - -", Answer::Full}}, {}},
+    {listed(Stores::Hidden),
+     {READ("8", "ReadUnique", "UC"), {"REQ 9 40 1 ReadUnique 1040 - - 1 - -"}, {"SNP 40 8 5 SnpUnique 1040 - - - - -"},
+      {"DAT 8 40 5 SnpRespData - I_PD - - - 0,7,0,0,0,0,0,0"}}, {}},
+    /* (where stores are listed a clean copy has none) */
+    {listed(Stores::Listed),
+     {READ("8", "ReadUnique", "UC"), {"REQ 9 40 1 ReadUnique 1040 - - 1 - -"}, {"SNP 40 8 5 SnpUnique 1040 - - - - -"},
+      {"DAT 8 40 5 SnpRespData - I_PD - - - 0,7,0,0,0,0,0,0", Answer::Fault}},
+     ObserverFault{ObserverReason::NotSent, 6, 8, 0x1040, "line 6: SnpRespData_I_PD of node 8 at 1040: "}},
+    {sizes(8), {{"REQ 9 40 1 AtomicStore 2040 - - 1 - -", Answer::SetAside}}, {}, Answer::NothingJudged},
+    {sizes(8), {READ("8", "ReadShared", "SC"), {"REQ 9 40 1 AtomicStore 2040 - - 1 - -", Answer::SetAside}}, {}, Answer::PartlyJudged},
+    {sizes(8), {}, {}, Answer::NothingJudged},
+};
+
+static void runs() {
+    for (const Run &run : RUNS) {
+        Observer observer = *Observer::open(run.config);
+        for (const Row &row : run.rows) HOLDS(take(observer, row.line) == row.wanted);
+        const auto fault = *observer.fault();
+        HOLDS(fault.has_value() == run.fault.has_value() && observer.text() == (fault ? fault->text : ""));
+        if (fault && run.fault) {
+            HOLDS(fault->reason == run.fault->reason && fault->number == run.fault->number && fault->node == run.fault->node);
+            HOLDS(fault->line == run.fault->line && fault->text.rfind(run.fault->text, 0) == 0);
+        }
+        HOLDS(observer.close() == run.end && !observer.is_open() && observer.close() == Answer::Closed);
+    }
+}
+
 static void moves() {
     Observer closed;
-    HOLDS(!closed.is_open() && closed.close() == Answer::Closed && closed.take(Seen()) == Answer::Closed);
-    HOLDS(closed.fault().answer() == Answer::Closed && closed.counts().answer() == Answer::Closed && closed.text().empty());
+    HOLDS(!closed.is_open() && closed.close() == Answer::Closed && closed.take(Seen()) == Answer::Closed && closed.text().empty());
+    HOLDS(closed.fault().answer() == Answer::Closed && closed.counts().answer() == Answer::Closed);
+    HOLDS(closed.unjudged().answer() == Answer::Closed && closed.copy().answer() == Answer::Closed);
     HOLDS(Observer::open(sizes(0)).answer() == Answer::OutOfRange && Observer::open(sizes(8)));
-    ObserverConfig wrong = sizes(8);
-    wrong.types = 3;
-    HOLDS(Observer::open(wrong).answer() == Answer::OutOfRange);
-    wrong = sizes(8);
-    wrong.stores = Stores(2);
-    HOLDS(Observer::open(wrong).answer() == Answer::OutOfRange);
+    HOLDS(Observer::open(listed(Stores(2))).answer() == Answer::OutOfRange);
     Observer observer = *Observer::open(sizes(8));
     HOLDS(take(observer, "REQ 8 40 1 ReadShared 1040 - - 1 - -") == Answer::OK);
     closed = std::move(observer);
@@ -67,80 +125,40 @@ static void moves() {
     HOLDS(take(closed, "RSP 40 8 9 RetryAck - - - - 0 -") == Answer::Fault && (*closed.fault())->number == 2);
     Observer &same = closed;
     closed = std::move(same);
-    HOLDS(closed.is_open() && closed.close() == Answer::OK && closed.close() == Answer::Closed);
+    HOLDS(closed.is_open());
 }
 
 static void copies() {
-    const Observer closed;
-    HOLDS(closed.copy().answer() == Answer::Closed);
     Observer observer = *Observer::open(sizes(8));
     HOLDS(take(observer, "REQ 8 40 1 ReadShared 1040 - - 1 - -") == Answer::OK);
     Observer copy = *static_cast<const Observer &>(observer).copy();
     HOLDS(copy.is_open() && observer.is_open() && copy.counts()->requests == 1);
     HOLDS(take(copy, "DAT 40 8 1 CompData - SC 11 - - 1,2,3,4,5,6,7,8") == Answer::OK && copy.counts()->requests == 0);
-    HOLDS(observer.counts()->requests == 1);
     HOLDS(take(observer, "RSP 40 8 9 RetryAck - - - - 0 -") == Answer::Fault && (*observer.copy()->fault())->number == 2);
-    HOLDS(!*copy.fault() && copy.close() == Answer::OK);
+    HOLDS(observer.counts()->requests == 1 && !*copy.fault());
 }
 
-static void answers() {
+/* What is held and what isn't judged is told, and a flit without a number has the next one. */
+static void held() {
     Observer observer = *Observer::open(sizes(2));
     Seen wrong = seen("REQ 8 40 1 ReadShared 1040 - - 1 - -");
     wrong.number = 0;
     HOLDS(observer.take(wrong) == Answer::OutOfRange && observer.take(Seen()) == Answer::OutOfRange);
     wrong.number = 7;
-    HOLDS(observer.take(wrong) == Answer::OK && observer.counts()->ids == 1 && !*observer.fault());
-    HOLDS(take(observer, "DAT 40 8 1 CompData - SC 11 - - 1,2,3,4,x,x,x,x") == Answer::OK && observer.counts()->ids == 2);
-    HOLDS(take(observer, "DAT 40 8 1 CompData - SC 11 - - x,x,x,x,5,6,7,8") == Answer::OK && observer.counts()->ids == 1);
-    HOLDS(observer.counts()->completions == 1 && !observer.counts()->is_complete());
+    HOLDS(observer.take(wrong) == Answer::OK && take(observer, "DAT 40 8 1 CompData - SC 11 - - 1,2,3,4,x,x,x,x") == Answer::OK);
+    HOLDS(observer.counts()->ids == 2 && take(observer, "DAT 40 8 1 CompData - SC 11 - - x,x,x,x,5,6,7,8") == Answer::OK);
+    HOLDS(observer.counts()->ids == 1 && observer.counts()->completions == 1 && !observer.counts()->is_complete());
     HOLDS(take(observer, "RSP 8 40 11 CompAck - - - - - -") == Answer::OK && observer.counts()->is_complete());
-    HOLDS(take(observer, "REQ 9 40 1 AtomicStore 2040 - - 1 - -") == Answer::SetAside);
-    HOLDS(observer.counts()->aside == 1 && observer.counts()->lines == 2);
-    HOLDS(take(observer, "REQ 9 40 2 ReadShared 3040 - - 1 - -") == Answer::Full && !*observer.fault());
-    HOLDS(take(observer, "REQ 9 40 2 ReadShared 1040 - - 1 - -") == Answer::OK);
+    HOLDS(take(observer, "REQ 9 40 1 AtomicStore 2040 - - 1 - -") == Answer::SetAside && observer.counts()->aside == 1);
+    HOLDS(take(observer, "REQ 9 40 2 ReadShared 1040 - - 1 - -") == Answer::OK && observer.counts()->lines == 2);
     HOLDS(take(observer, "RSP 40 9 2 RetryAck - - - - 2 -") == Answer::OK && observer.counts()->retried == 1);
     HOLDS(observer.counts()->accounts == 1 && observer.counts()->unsettled == 1);
     const Unjudged unjudged = *observer.unjudged();
     HOLDS(unjudged.flits == 1 && unjudged.of_flits == observer.counts()->flits && unjudged.accesses == 0);
-    HOLDS(unjudged.lines == 1 && unjudged.of_lines == 2 && unjudged.text.find("\nAtomicStore: 1 cache lines, ") != std::string::npos);
-    HOLDS(observer.close() == Answer::PartlyJudged && observer.unjudged().answer() == Answer::Closed);
-    Observer unused = *Observer::open(sizes(8));
-    HOLDS(unused.unjudged()->text.empty() && unused.close() == Answer::NothingJudged && !unused.is_open());
-}
-
-static void faults() {
-    Observer observer = *Observer::open(sizes(8));
-    for (const char *line : {"REQ 8 40 1 ReadUnique 1040 - - 1 - -", "DAT 40 8 1 CompData - UC 11 - - 5,0,0,0,0,0,0,7",
-                             "RSP 8 40 11 CompAck - - - - - -", "REQ 9 40 1 ReadUnique 1040 - - 1 - -"})
-        HOLDS(take(observer, line) == Answer::OK);
-    HOLDS(take(observer, "DAT 40 9 1 CompData - UC 11 - - 5,0,0,0,0,0,0,7") == Answer::Fault);
-    const ObserverFault fault = **observer.fault();
-    HOLDS(fault.reason == ObserverReason::OtherCopy && fault.number == 5 && fault.node == 9 && fault.line == 0x1040);
-    HOLDS(fault.text == observer.text() && fault.text.rfind("line 5: CompData_UC to node 9 at 1040: the copy of node 8", 0) == 0);
-    HOLDS(take(observer, "REQ 8 40 2 ReadUnique 1080 - - 1 - -") == Answer::Fault && (*observer.fault())->number == 5);
-    Observer other = *Observer::open(sizes(8));
-    HOLDS(take(other, "REQ 8 40 1 ReadUnique 1040 - - 1 - -") == Answer::OK);
-    HOLDS(take(other, "RSP 8 40 3 CompAck - - - - - -") == Answer::Fault);
-    const ObserverFault id = **other.fault();
-    HOLDS(id.reason == ObserverReason::NotOpen && id.number == 2 && id.node == 8 && !id.line);
-    HOLDS(std::strcmp(name(id.reason), "NotOpen") == 0);
+    HOLDS(unjudged.lines == 1 && unjudged.of_lines == 2);
+    HOLDS(unjudged.text.find("\nAtomicStore: 1 cache lines, the first 2040 by trace line 11\n") != std::string::npos);
+    HOLDS(std::strcmp(name(ObserverReason::NotOpen), "NotOpen") == 0 && std::strcmp(name(Answer::Full), "Full") == 0);
     HOLDS(std::strcmp(name(Opcode::SnpOnce), "SnpOnce") == 0 && std::strcmp(name(Resp::SD_PD), "SD_PD") == 0);
-    HOLDS(std::strcmp(name(Answer::Full), "Full") == 0);
-}
-
-/* Where stores are listed a clean copy has none. */
-static void stores() {
-    for (const Stores told : {Stores::Hidden, Stores::Listed}) {
-        ObserverConfig config = sizes(8);
-        config.stores = told;
-        Observer observer = *Observer::open(config);
-        for (const char *line : {"REQ 8 40 1 ReadUnique 1040 - - 1 - -", "DAT 40 8 1 CompData - UC 11 - - 0,0,0,0,0,0,0,0",
-                                 "RSP 8 40 11 CompAck - - - - - -", "REQ 9 40 1 ReadUnique 1040 - - 1 - -",
-                                 "SNP 40 8 5 SnpUnique 1040 - - - - -"})
-            HOLDS(take(observer, line) == Answer::OK);
-        const Answer answer = take(observer, "DAT 8 40 5 SnpRespData - I_PD - - - 0,7,0,0,0,0,0,0");
-        HOLDS(answer == (told == Stores::Listed ? Answer::Fault : Answer::OK));
-    }
 }
 
 /* Prints the first line on a trace. */
@@ -169,10 +187,9 @@ static void observe(const char *file) {
 int main(int count, char **words) {
     for (int word = 1; word < count; word++) observe(words[word]);
     if (count > 1) return failures == 0 ? 0 : 1;
+    runs();
     moves();
     copies();
-    answers();
-    faults();
-    stores();
+    held();
     return failures == 0 ? 0 : 1;
 }
