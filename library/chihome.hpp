@@ -451,35 +451,14 @@ struct ObserverFault {
     std::string text;
 };
 
-/* How much of what it was given an observer hasn't judged: flits, lines of memory, and loads and stores, each of so many; and
- * why, as text, which is empty where all is judged. */
-struct Unjudged {
-    std::uint64_t flits = 0;
-    std::uint64_t of_flits = 0;
-    std::uint64_t lines = 0;
-    std::uint64_t of_lines = 0;
-    std::uint64_t accesses = 0;
-    std::uint64_t of_accesses = 0;
+/* How much of what it was given an observer hasn't judged: flits, lines of memory, and loads and stores, each of so many
+ * (`of_flits`, `of_lines`, `of_accesses`); and why, as text, which is empty where all is judged. */
+struct Unjudged : ChiUnjudged {
     std::string text;
 };
 
-/* How much an observer has seen: flits, of which data in beats are one, loads and stores, lines of memory, and those that were
- * set aside; and what it holds: ids, open or not, accounts of credits, what is open, and how many accounts have credits that
- * are owed or unused. */
-struct ObserverCounts {
-    std::uint64_t flits = 0;
-    std::uint64_t accesses = 0;
-    std::uint64_t lines = 0;
-    std::uint64_t aside = 0;
-    std::uint32_t ids = 0;
-    std::uint32_t accounts = 0;
-    std::uint32_t requests = 0;
-    std::uint32_t completions = 0;
-    std::uint32_t snoops = 0;
-    std::uint32_t retried = 0;
-    std::uint32_t unsettled = 0;
-    std::uint8_t requesters = 0;
-    std::uint8_t homes = 0;
+/* How much an observer has seen, and what it holds: the fields of ChiObserverCounts. */
+struct ObserverCounts : ChiObserverCounts {
     /* Whether nothing is open, as it should be at the end of a run. */
     bool is_complete() const { return (requests | completions | snoops | retried | unsettled) == 0; }
 };
@@ -769,24 +748,6 @@ inline std::optional<ObserverFault> fault(const ChiObserverFault &from) {
     to.number = from.number;
     to.node = from.node;
     if (from.has_line != 0) to.line = from.line;
-    return to;
-}
-
-inline ObserverCounts counts(const ChiObserverCounts &from) {
-    ObserverCounts to;
-    to.flits = from.flits;
-    to.accesses = from.accesses;
-    to.lines = from.lines;
-    to.aside = from.aside;
-    to.ids = from.ids;
-    to.accounts = from.accounts;
-    to.requests = from.requests;
-    to.completions = from.completions;
-    to.snoops = from.snoops;
-    to.retried = from.retried;
-    to.unsettled = from.unsettled;
-    to.requesters = from.requesters;
-    to.homes = from.homes;
     return to;
 }
 
@@ -1198,18 +1159,17 @@ class Observer {
 
     /* How much of what it was given isn't judged, and why, as `chihome observe` prints it. */
     Outcome<Unjudged> unjudged() {
-        ChiUnjudged told;
+        Unjudged told;
         const std::uint8_t answer = chi_observer_unjudged(&handle_, &told);
-        Unjudged all{told.flits, told.of_flits, told.lines, told.of_lines, told.accesses, told.of_accesses, ""};
-        if (answer == CHI_OK) all.text = said(chi_observer_unjudged_text);
-        return layout::outcome(answer, std::move(all));
+        if (answer == CHI_OK) told.text = said(chi_observer_unjudged_text);
+        return layout::outcome(answer, std::move(told));
     }
 
     /* How much it has seen, and what it holds. */
     Outcome<ObserverCounts> counts() {
-        ChiObserverCounts told;
+        ObserverCounts told;
         const std::uint8_t answer = chi_observer_counts(&handle_, &told);
-        return layout::outcome(answer, layout::counts(told));
+        return layout::outcome(answer, told);
     }
 
     /* An observer that is the same, in memory of its own: each goes on by itself. NoMemory. */
