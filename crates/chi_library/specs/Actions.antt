@@ -42,9 +42,12 @@ step_of a =
     if a.step == 15 then Some RecvDbid else (
     if a.step == 16 then Some RecvWrData else None))))))))))))))))
 
+abbrev pub action_by : ChiAction → Step → Action
+action_by a step = record { agent = agent_at a.agent; line = line_at a.line; step = step }
+
 abbrev pub action_if : ChiAction → Option Step → Option Action
 action_if a None = None
-action_if a (Some step) = Some (record { agent = agent_at a.agent; line = line_at a.line; step = step })
+action_if a (Some step) = Some (action_by a step)
 
 -- the action that C's numbers name
 abbrev pub action_of : ChiAction → Option Action

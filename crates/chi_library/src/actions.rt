@@ -1,7 +1,7 @@
 //! An action in C's words, and what it gives.
 
 ghost use Rattle.std.specs.Prelude.{◌≡◌};
-ghost use Rattle.chi_library.specs.Actions.{action_of, action_told, effect_told, issue_of, no_effect, step_number, step_of, step_told};
+ghost use Rattle.chi_library.specs.Actions.{action_by, action_of, action_told, effect_told, no_effect, step_number, step_told};
 
 use chi_flit::{Action, Agent, Effect, Kind, Line, Slot, Step, WordNo};
 
@@ -52,36 +52,47 @@ impl ChiEffect {
     };
 }
 
-/// The Issue of these numbers.
-fn issue(kind: u8, slot: Slot) -> Option<Step>
-    ensures { result ≡ issue_of kind slot }
-{
-    Some(Step::Issue(Kind::numbered(kind)?, slot))
+/// Calls `$done` with the action that C's numbers name, and with what else is given; `$none` where they name none. Each
+/// step has a call of its own, in which it is known: where that call is inlined, nothing asks again which step it is.
+macro_rules! by_step {
+    ($action:ident, $done:path, ($($given:expr),*), $none:expr) => {
+        match $action.step {
+            0 => $done(action_by($action, Step::Load(WordNo($action.word))) $(, $given)*),
+            1 => $done(action_by($action, Step::Store(WordNo($action.word), $action.value)) $(, $given)*),
+            2 => $done(action_by($action, Step::Drop) $(, $given)*),
+            3 => match Kind::numbered($action.kind) {
+                Some(kind) => $done(action_by($action, Step::Issue(kind, Slot($action.slot))) $(, $given)*),
+                None => $none,
+            },
+            4 => $done(action_by($action, Step::Admit) $(, $given)*),
+            5 => $done(action_by($action, Step::Retry) $(, $given)*),
+            6 => $done(action_by($action, Step::RecvRetry) $(, $given)*),
+            7 => $done(action_by($action, Step::Resend) $(, $given)*),
+            8 => $done(action_by($action, Step::Cancel) $(, $given)*),
+            9 => $done(action_by($action, Step::Start) $(, $given)*),
+            10 => $done(action_by($action, Step::RecvSnp) $(, $given)*),
+            11 => $done(action_by($action, Step::RecvSnpResp) $(, $given)*),
+            12 => $done(action_by($action, Step::RecvData) $(, $given)*),
+            13 => $done(action_by($action, Step::RecvComp) $(, $given)*),
+            14 => $done(action_by($action, Step::RecvAck) $(, $given)*),
+            15 => $done(action_by($action, Step::RecvDbid) $(, $given)*),
+            16 => $done(action_by($action, Step::RecvWrData) $(, $given)*),
+            _ => $none,
+        }
+    };
 }
 
-/// The step that an action's numbers name; `None` where they name none.
-fn step_at(action: &ChiAction) -> Option<Step>
-    ensures { result ≡ step_of action.now }
+pub(crate) use by_step;
+
+/// The action of this step with an action's agent and line.
+#[inline(always)]
+pub(crate) fn action_by(action: &ChiAction, step: Step) -> Action
+    ensures { result ≡ action_by action.now step }
 {
-    match action.step {
-        0 => Some(Step::Load(WordNo(action.word))),
-        1 => Some(Step::Store(WordNo(action.word), action.value)),
-        2 => Some(Step::Drop),
-        3 => issue(action.kind, Slot(action.slot)),
-        4 => Some(Step::Admit),
-        5 => Some(Step::Retry),
-        6 => Some(Step::RecvRetry),
-        7 => Some(Step::Resend),
-        8 => Some(Step::Cancel),
-        9 => Some(Step::Start),
-        10 => Some(Step::RecvSnp),
-        11 => Some(Step::RecvSnpResp),
-        12 => Some(Step::RecvData),
-        13 => Some(Step::RecvComp),
-        14 => Some(Step::RecvAck),
-        15 => Some(Step::RecvDbid),
-        16 => Some(Step::RecvWrData),
-        _ => None,
+    Action {
+        agent: Agent(action.agent),
+        line: Line(action.line),
+        step,
     }
 }
 
@@ -89,11 +100,7 @@ fn step_at(action: &ChiAction) -> Option<Step>
 pub(crate) fn action_at(action: &ChiAction) -> Option<Action>
     ensures { result ≡ action_of action.now }
 {
-    Some(Action {
-        agent: Agent(action.agent),
-        line: Line(action.line),
-        step: step_at(action)?,
-    })
+    by_step!(action, Some, (), None)
 }
 
 /// Tells what an action gives, where all numbers are 0: those that stay 0, nearly all of them, aren't written

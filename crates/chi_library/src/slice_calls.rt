@@ -10,9 +10,9 @@ ghost use Rattle.chi_library.specs.Numbers.{number_if};
 ghost use Rattle.chi_library.specs.Records.{no_record};
 ghost use Rattle.chi_library.specs.Sizes.{config_of};
 ghost use Rattle.chi_library.specs.SliceCalls.{Opens, act_after, decoded_refusal, act_told, entry_at, entry_refusal, entry_told, flits_shown, show_told, sizes_at};
-ghost use Rattle.chi_slice.specs.Slice.{flits_refusal, opening_slice, view_refusal};
+ghost use Rattle.chi_slice.specs.Slice.{action_refusal, flits_refusal, opening_slice, slice_after_try, view_refusal};
 
-use crate::actions::{ChiAction, ChiEffect, action_at, tell_effect};
+use crate::actions::{ChiAction, ChiEffect, action_at, action_by, by_step, tell_effect};
 use crate::answers::{ALREADY_OPEN, CLOSED, DONE, NO_MEMORY, OUT_OF_RANGE, number_if};
 use crate::flits::{ChiFlits, flits_told};
 use crate::lines::{ChiLine, line_told};
@@ -21,7 +21,7 @@ use crate::numbers::flag_number;
 use crate::records::{ChiRecord, record_told};
 use crate::sizes::{ChiConfig, config_at};
 use crate::slice_handle::ChiSlice;
-use chi_flit::{Agent, Line, NoMemory};
+use chi_flit::{Action, Agent, Kind, Line, NoMemory, Slot, Step, WordNo};
 use chi_slice::{Config, EACH_CREDIT, Slice, check_slice};
 use std::alloc::Global;
 
@@ -260,6 +260,23 @@ fn boxed_slice(alloc: Global, config: &Config, index: u8) -> Result<Box<Slice<Gl
     Ok(Box::new(alloc, slice)?)
 }
 
+/// Does an action that C's numbers name, and says what it gives.
+#[inline(always)]
+fn act_by(action: Action, slice: &mut Slice<Global>, effect: &mut ChiEffect) -> u8
+    requires { effect.old ≡ no_effect }
+    ensures answer { result ≡ number_if (action_refusal slice.old action) }
+    ensures after { slice.new ≡ slice_after_try slice.old action }
+    ensures effect { effect.new ≡ act_told (Some action) slice.old }
+{
+    match slice.act_with(action, EACH_CREDIT) {
+        Ok(done) => {
+            tell_effect(effect, done.effect);
+            DONE
+        }
+        Err(reason) => reason.number(),
+    }
+}
+
 /// Does an action, and says what it gives.
 fn act(slice: &mut Slice<Global>, action: &ChiAction, effect: &mut ChiEffect) -> u8
     requires { effect.old ≡ no_effect }
@@ -267,16 +284,7 @@ fn act(slice: &mut Slice<Global>, action: &ChiAction, effect: &mut ChiEffect) ->
     ensures after { slice.new ≡ act_after (action_of action.now) slice.old }
     ensures effect { effect.new ≡ act_told (action_of action.now) slice.old }
 {
-    let Some(action) = action_at(action) else {
-        return OUT_OF_RANGE;
-    };
-    match slice.act(action) {
-        Ok(done) => {
-            tell_effect(effect, done);
-            DONE
-        }
-        Err(reason) => reason.number(),
-    }
+    by_step!(action, act_by, (slice, effect), OUT_OF_RANGE)
 }
 
 /// Why an action would be refused.

@@ -12,7 +12,7 @@ ghost use Rattle.chi_library.specs.SliceCalls.{act_after, act_told, decoded_refu
 ghost use Rattle.chi_library.specs.Standing.{line_standing};
 ghost use Rattle.chi_slice.specs.Slice.{IsRowOf, action_refusal, is_in_range, line as line_of_slice, row_of_line, slice_after, slice_after_try};
 
-use crate::actions::{ChiAction, ChiEffect, action_at, tell_effect};
+use crate::actions::{ChiAction, ChiEffect, action_by, by_step, tell_effect};
 use crate::answers::{CLOSED, DONE, OUT_OF_RANGE};
 use crate::flits::{ChiFlit, ChiSent};
 use crate::sent::{
@@ -20,7 +20,7 @@ use crate::sent::{
     tell_taken,
 };
 use crate::slice_handle::ChiSlice;
-use chi_flit::{Action, Channel, Effect, Refusal, Step};
+use chi_flit::{Action, Channel, Effect, Kind, Refusal, Slot, Step, WordNo};
 use chi_slice::{EACH_CREDIT, Serving, Slice};
 use std::alloc::Global;
 
@@ -85,17 +85,22 @@ fn step(
         sent.old sent.new count.new }
     ensures taken { taken.new ≡ taken_shown (action_of action.now) slice.old }
 {
-    let Some(action) = action_at(action) else {
-        *taken = ChiSent::NONE;
-        return OUT_OF_RANGE;
-    };
-    step_at(slice, action, effect, sent, count, taken)
+    by_step!(
+        action,
+        step_by,
+        (slice, effect, sent, count, taken),
+        {
+            *taken = ChiSent::NONE;
+            OUT_OF_RANGE
+        }
+    )
 }
 
-/// Does an action as `step` does it.
-fn step_at(
-    slice: &mut Slice<Global>,
+/// Does an action that C's numbers name as `step` does it.
+#[inline(always)]
+fn step_by(
     action: Action,
+    slice: &mut Slice<Global>,
     effect: &mut ChiEffect,
     sent: &mut [ChiSent; 8],
     count: &mut u8,
@@ -123,6 +128,7 @@ fn step_at(
 
 /// Does an action, and tells its effect, the flit that it took out of its cell before it, and those that it sent
 /// out of theirs after it. It asks once where the line is, and answers how many flits were sent.
+#[inline(always)]
 fn act_telling(
     slice: &mut Slice<Global>,
     action: Action,
@@ -161,7 +167,8 @@ fn act_telling(
     Ok(list_sent(slice, row, action, before, &taken.flit, sent))
 }
 
-/// Does an action in the row of its line. (A function of its own, so that it is compiled as `Slice::act` is.)
+/// Does an action in the row of its line.
+#[inline(always)]
 fn act_in_row(slice: &mut Slice<Global>, row: u8, action: Action) -> Result<Effect, Refusal>
     requires row { row ≡ row_of_line slice.old action.line.0 }
     requires inside { is_in_range slice.old action ≡ true }
