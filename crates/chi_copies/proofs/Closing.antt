@@ -1,19 +1,19 @@
 -- Hidden steps lead to nothing that isn't meant.
-use Rattle.std.proofs.Common.{rules, arith, ◌≡◌, ◌≢◌, inl, inr, ℕ, ◌<◌, refl, sym, ap, subst, ◌∙◌}
-use Rattle.std.specs.Prelude.{Bool, true, false, ◌&&◌, ◌||◌, not, Option, Some, None, List, ◌⊎◌}
+use Rattle.std.proofs.Common.{◌≡◌, ◌≢◌, inl, inr, ℕ, ◌<◌, refl, sym, ap, subst, ◌∙◌}
+use Rattle.std.specs.Prelude.{Bool, true, false, ◌&&◌, ◌||◌, not, Some, List, ◌⊎◌}
 use Rattle.chi_observer.specs.declared.flits.Due.{Due}
 use Rattle.chi_observer.specs.declared.flits.Due.TheVariants.{Nothing, Completion, Resending, SureCompletion, WriteData, Acknowledgement}
 use Rattle.chi_observer.specs.declared.flits.Stores.{Stores}
 use Rattle.chi_observer.specs.declared.flits.Stores.TheVariants.{Hidden as HiddenStores, Listed}
-use Rattle.chi_observer.specs.Copies.{holds_data, is_unique, is_clean}
+use Rattle.chi_observer.specs.Copies.{holds_data}
 use Rattle.chi_observer.specs.Rules.{are_hidden, is_resending, word_at}
-use Rattle.chi_copies.specs.Copies.{Held, is_newer, beside}
-use Rattle.chi_copies.specs.Rules.{is_free, may_store, may_hide, may_be_free, freed, stored_to, dropped, slips}
-use Rattle.chi_copies.specs.Worlds.{Public, World, Words, Same, Shown, Elsewhere, unchanged, StoresUnseen, Drops, Cancels, Hidden}
+use Rattle.chi_copies.specs.Copies.{Held, is_newer}
+use Rattle.chi_copies.specs.Rules.{is_free, may_store, may_hide, freed, stored_to, dropped, slips}
+use Rattle.chi_copies.specs.Worlds.{World, Words, Same, Shown, Elsewhere, unchanged, StoresUnseen, Drops, Cancels}
 use Rattle.chi_copies.specs.Observed.{Observed, Sound, Closed, Meaning, has_news}
 use Rattle.chi_copies.specs.Laws.{MeaningIsClosed}
-use Rattle.chi_copies.proofs.Finite.{no, left, right, both, turned, flip}
-use Rattle.chi_copies.proofs.Means.{same_by, same_sym, same_trans, met, alone_data, free_may, resending_may, free_stores, free_freed, slip_free, slip_store, slip_drop}
+use Rattle.chi_copies.proofs.Finite.{no, left, right, both}
+use Rattle.chi_copies.proofs.Means.{same_by, same_trans, met, alone_data, free_may, resending_may, free_stores, free_freed, slip_free, slip_store, slip_drop}
 use Rattle.chi_copies.proofs.Put.{split}
 
 or_true : (c : Bool) → (c || true) ≡ true

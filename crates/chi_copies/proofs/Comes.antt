@@ -1,11 +1,10 @@
 -- Each world right behind a flit of a cache comes from one before.
-use Rattle.std.proofs.Common.{rules, arith, ◌≡◌, ◌≢◌, inl, inr, ℕ, ◌<◌, zero, suc, refl, sym, ap, subst, ◌∙◌, eq-eqb}
-use Rattle.std.specs.Prelude.{Bool, true, false, ◌&&◌, ◌||◌, ◌==◌, not, Option, Some, None, List, ◌⊎◌, if◌then◌else◌}
+use Rattle.std.proofs.Common.{rules, arith, ◌≡◌, ◌≢◌, ℕ, ◌<◌, zero, suc, refl, sym, ap, subst, ◌∙◌, eq-eqb}
+use Rattle.std.specs.Prelude.{Bool, true, false, ◌&&◌, ◌||◌, ◌==◌, not, Option, Some, None, List, if◌then◌else◌}
 use Rattle.std.proofs.lemmas.Bool.{eqb-true}
 use Rattle.chi_observer.specs.declared.flits.Due.{Due}
 use Rattle.chi_observer.specs.declared.flits.Due.TheVariants.{Nothing, Completion, Resending, SureCompletion, WriteData, Acknowledgement}
 use Rattle.chi_observer.specs.declared.flits.Stores.{Stores}
-use Rattle.chi_observer.specs.declared.flits.Stores.TheVariants.{Hidden as HiddenStores, Listed}
 use Rattle.chi_observer.specs.declared.flits.Word.{Word}
 use Rattle.chi_observer.specs.declared.flits.Act.{Act}
 use Rattle.chi_observer.specs.declared.flits.Act.TheVariants.{Request, Resend, SnpResp, CompAck, CopyBackWrData, NonCopyBackWrData, Load, Store}
@@ -13,16 +12,17 @@ use Rattle.chi_observer.specs.declared.flits.CacheFlit.{CacheFlit}
 use Rattle.chi_observer.specs.Copies.{Copy, holds_data, is_unique, is_dirty, same}
 use Rattle.chi_observer.specs.Copies.Copy.{UniqueDirty, Writing}
 use Rattle.chi_observer.specs.Rules.{are_hidden, is_resending, gives_up, has_data, writes, tells_words, looks, stores, is_request, lets_go, due_after, word_at, allows, throws}
-use Rattle.chi_copies.specs.Copies.{Held, Copies, shown_of, is_fresh, is_newer, beside, leaves, same_held, any_bool, any_held}
+use Rattle.chi_copies.specs.Copies.{Held, Copies, is_fresh, is_newer, beside, leaves, same_held, any_bool, any_held}
 use Rattle.chi_copies.specs.Rules.{may_store, may_hide, is_due_data, lets, row, acts, loses, stored_to}
-use Rattle.chi_copies.specs.Worlds.{World, Words, Same, Shown, StoresWord, Stored, has_word, is_placed, makes_value, keeps_value, put, all_below}
-use Rattle.chi_copies.specs.Observed.{Observed, Sound, Meaning, has_news, home_at, fits_at, differs_at, fits_each, known_of, may_own, sends, sent, takes, moved, no_words, known_before, stores_from, forgets, news_by, news_after}
+use Rattle.chi_copies.specs.Worlds.{World, Words, Same, Shown, StoresWord, Stored, has_word, is_placed, makes_value, put, all_below}
+use Rattle.chi_copies.specs.Observed.{Observed, Sound, Meaning, has_news, home_at, fits_at, differs_at, fits_each, known_of, may_own, sends, sent, takes, moved, no_words, known_before, stores_from, forgets, news_by, news_after, of_eight}
 use Rattle.chi_copies.specs.Laws.{ComesBy, MeaningComes}
+use Rattle.chi_copies.proofs.Eight.{eight_is}
 use Rattle.chi_copies.proofs.Finite.{no, left, right, both, by_truth, by_false, turned, flip, in_bool, in_held, out_held, none_held}
-use Rattle.chi_copies.proofs.Rows.{is_sane, is_store_row, RowFacts, same_held_is, some_is, is_leaves}
+use Rattle.chi_copies.proofs.Rows.{is_store_row, RowFacts, same_held_is, some_is, is_leaves}
 use Rattle.chi_copies.proofs.Means.{same_refl, same_by, same_sym, same_trans, sane, none_stored, none_newer, alone_data, free_stores}
-use Rattle.chi_copies.proofs.Moved.{if_some, Sent, Came, came, own_but, others_after, others_if, empty_at, quiet_at, sent_by, came_by}
-use Rattle.chi_copies.proofs.Leads.{low_place, none_some_nat, some_nat, hides_none, listed_or, may_store_alike, hide_alike, resent_waits, and_none, ack_is, contrary, looks_stores, tells_no_store, writes_no_loss, has_no_write, writes_none}
+use Rattle.chi_copies.proofs.Moved.{if_some, Came, came, own_but, others_after, others_if, empty_at, quiet_at, sent_by, came_by}
+use Rattle.chi_copies.proofs.Leads.{low_place, none_some_nat, some_nat, hides_none, listed_or, hide_alike, and_none, ack_is, contrary, looks_stores, tells_no_store, has_no_write, writes_none}
 use Rattle.chi_copies.proofs.Rewind.{made, made_fits, or_zero, newer_is_unique, newer_is_stored}
 use Rattle.chi_copies.proofs.Prior.{Prior, prior, prior_has, prior_is, prior_if, comes_by, old}
 use Rattle.chi_copies.proofs.Put.{differ, here, there, split}
@@ -691,8 +691,9 @@ module _ (o : Observed) (f : CacheFlit) (w' : World) (sound : Sound o) (low : f.
             earlier_stored : (v : ℕ) → StoresWord a z (holds_data c.held.copy) (earlier v) w'.last
             earlier_stored v = stored_words c.held (earlier v) (λ _. record { here = value_is; there = λ _ p l g. sym (earlier_else v p g) })
 
-            known_full : (p : ℕ) → known_before o n S p ≡ (if any_held newer then o.news p else home_at o.home p)
-            known_full p = ap (λ (b : Bool). if b then None else (if any_held newer then o.news p else home_at o.home p)) full
+            known_full : (p : ℕ) → p < 8 → known_before o n S p ≡ (if any_held newer then o.news p else home_at o.home p)
+            known_full p l = ap (λ (b : Bool). if b then None else (if any_held newer then o.news p else of_eight (home_at o.home) p)) full
+                ∙ ap (λ (k : Option ℕ). if any_held newer then o.news p else k) (eight_is (home_at o.home) p l)
 
             listed_store : (v : ℕ) → (c.held.stored ≡ false → Same w'.home (earlier v)) → (has_news o.public n c.held ≡ true → (p : ℕ) → p < 8 → (u : ℕ) → o.news p ≡ Some u → earlier v p ≡ u) → ComesBy o f w'
             listed_store v g h = storing c.held c.has c.by.own c.by.let_go c.by.row is_store (left _ _ stored_facts) after_store (earlier v) (word_any _ ∙ sym own_is, earlier_stored v, g, h)
@@ -709,7 +710,7 @@ module _ (o : Observed) (f : CacheFlit) (w' : World) (sound : Sound o) (low : f.
                   where
                     by : (b : Bool) → (p == place) ≡ b → earlier (or_zero (o.news place)) p ≡ u
                     by true h = earlier_here (or_zero (o.news place)) p (eqb-true p place h) ∙ ap (λ p. or_zero (o.news p)) (sym (eqb-true p place h)) ∙ ap or_zero r
-                    by false h = earlier_else (or_zero (o.news place)) p (differ p place h) ∙ known_else p u l (differ p place h) (known_full p ∙ ap (λ (b : Bool). if b then o.news p else home_at o.home p) q ∙ r)
+                    by false h = earlier_else (or_zero (o.news place)) p (differ p place h) ∙ known_else p u l (differ p place h) (known_full p l ∙ ap (λ (b : Bool). if b then o.news p else home_at o.home p) q ∙ r)
 
             over_fresh : any_held newer ≡ false → ComesBy o f w'
             over_fresh q = listed_store (w'.home place) home_then (λ g. no (sym unstored ∙ left _ _ (left _ _ g)))
@@ -732,7 +733,7 @@ module _ (o : Observed) (f : CacheFlit) (w' : World) (sound : Sound o) (low : f.
                     by : (b : Bool) → (p == place) ≡ b → w'.home p ≡ earlier (w'.home place) p
                     by true h = ap w'.home (eqb-true p place h) ∙ sym (earlier_here (w'.home place) p (eqb-true p place h))
                     by false h = kept_known fresh.0 fresh.1 p l ∙ sym (known_else p (word_at fresh.0 p) l (differ p place h)
-                        (known_full p ∙ ap (λ (b : Bool). if b then o.news p else home_at o.home p) q ∙ ap (λ h. home_at h p) fresh.1)) ∙ sym (earlier_else (w'.home place) p (differ p place h))
+                        (known_full p l ∙ ap (λ (b : Bool). if b then o.news p else home_at o.home p) q ∙ ap (λ h. home_at h p) fresh.1)) ∙ sym (earlier_else (w'.home place) p (differ p place h))
 
             full_store : ComesBy o f w'
             full_store = by_truth (any_held newer) over_newer over_fresh

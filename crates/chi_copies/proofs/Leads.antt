@@ -1,6 +1,6 @@
 -- A flit of a cache is taken where a world sends it, and leads to what is meant.
 use Rattle.std.proofs.Common.{rules, arith, ◌≡◌, ◌≢◌, inl, inr, ℕ, ◌<◌, zero, suc, refl, sym, ap, subst, ◌∙◌, eq-eqb}
-use Rattle.std.specs.Prelude.{Bool, true, false, ◌&&◌, ◌||◌, ◌==◌, not, Option, Some, None, List, ◌⊎◌, nat_lt, ⊤, if◌then◌else◌}
+use Rattle.std.specs.Prelude.{Bool, true, false, ◌&&◌, ◌||◌, ◌==◌, not, Option, Some, None, List, ◌⊎◌, nat_lt, if◌then◌else◌}
 use Rattle.std.proofs.lemmas.Bool.{eqb-true}
 use Rattle.chi_observer.specs.declared.kinds.Kind.{Kind}
 use Rattle.chi_observer.specs.declared.flits.Due.{Due}
@@ -12,16 +12,16 @@ use Rattle.chi_observer.specs.declared.flits.Act.TheVariants.{Request, Resend, S
 use Rattle.chi_observer.specs.declared.flits.CacheFlit.{CacheFlit}
 use Rattle.chi_observer.specs.Copies.{holds_data, is_unique}
 use Rattle.chi_observer.specs.Rules.{are_hidden, gives_up, has_data, writes, tells_words, looks, stores, is_request, lets_go, due_after, word_at, allows, same_kind, is_acknowledging}
-use Rattle.chi_copies.specs.Copies.{Held, Copies, shown_of, is_fresh, is_newer, beside, leaves, any_bool, any_held, image, same_held}
+use Rattle.chi_copies.specs.Copies.{Held, Copies, shown_of, is_fresh, is_newer, leaves, any_bool, any_held}
 use Rattle.chi_copies.specs.Rules.{may_store, may_hide, is_resent, is_due_data, lets, row, acts, loses, stored_to}
-use Rattle.chi_copies.specs.Worlds.{Public, World, Words, Same, Shown, Sends, Stored, StoresWord, has_word, is_placed, others_then, makes_value, keeps_value, put, all_below}
-use Rattle.chi_copies.specs.Observed.{Observed, Sound, Meaning, has_news, home_at, fits_at, differs_at, fits_each, known_of, may_own, sends, sent, takes, moved, no_words, known_before, stores_from, forgets, news_by, news_after}
+use Rattle.chi_copies.specs.Worlds.{World, Words, Same, Shown, Sends, Stored, StoresWord, has_word, is_placed, makes_value, put, all_below}
+use Rattle.chi_copies.specs.Observed.{Observed, Sound, Meaning, has_news, home_at, fits_at, differs_at, fits_each, known_of, may_own, sends, sent, takes, moved, no_words, known_before, stores_from, forgets, news_by, news_after, of_eight}
 use Rattle.chi_copies.specs.Laws.{CacheFlitsAreTaken, CacheFlitsLead}
-use Rattle.chi_copies.proofs.Finite.{no, left, right, both, or_left, or_right, implies, follow, by_truth, by_false, turned, flip, in_bool, in_held, out_held, none_held, in_image}
-use Rattle.chi_copies.proofs.Rows.{is_sane, is_leaves, is_store_row, RowFacts, row_facts, same_held_is, some_is}
-use Rattle.chi_copies.proofs.Means.{same_refl, same_by, same_sym, same_trans, sane, met, none_stored, none_newer}
-use Rattle.chi_copies.proofs.Moved.{if_some, Sent, Came, came_by, own_but, others_after, in_other, empty_at, quiet_at, sent_by}
-use Rattle.chi_copies.proofs.Loosened.{one}
+use Rattle.chi_copies.proofs.Eight.{eight_is}
+use Rattle.chi_copies.proofs.Finite.{no, left, right, both, by_truth, by_false, turned, flip, in_bool, in_held, out_held, in_image}
+use Rattle.chi_copies.proofs.Rows.{is_leaves, is_store_row, RowFacts, row_facts, same_held_is, some_is}
+use Rattle.chi_copies.proofs.Means.{same_by, same_sym, same_trans, sane, met, none_stored, none_newer}
+use Rattle.chi_copies.proofs.Moved.{if_some, Sent, Came, came_by, others_after, in_other, empty_at}
 use Rattle.chi_copies.proofs.Put.{differ, here, there, split}
 
 pub none_some_nat : (v : ℕ) → None ≡ Some v → ⊥
@@ -469,14 +469,14 @@ module _ (o : Observed) (f : CacheFlit) (w w' : World) (sound : Sound o) (low : 
       has : any_held empty ≡ false → holds_data h.copy ≡ true
       has g = by_truth (holds_data h.copy) (λ q. q) (λ q. no (sym g ∙ in_held empty h (both (S h) _ in_S (both (is_unique h.copy) _ u (flip _ q)))))
 
-      by : (b c : Bool) → any_held empty ≡ b → any_held newer ≡ c → (if b then None else (if c then o.news p else home_at o.home p)) ≡ Some v → (holds_data h.copy ≡ true) × (w.last p ≡ v)
+      by : (b c : Bool) → any_held empty ≡ b → any_held newer ≡ c → (if b then None else (if c then o.news p else of_eight (home_at o.home) p)) ≡ Some v → (holds_data h.copy ≡ true) × (w.last p ≡ v)
       by true c g q e = absurd (none_some_nat v e)
       by false true g q e = (has g, m.news n low (both (is_newer h) _ (both h.stored _ newer_h (has g)) (hides_none z (may_store d h) y)) p l v e)
         where
           newer_h : h.stored ≡ true
           newer_h = let t = out_held newer q in let t_in = left (S t.0) _ t.1 in let t_new = right (is_unique t.0.copy) _ (right (S t.0) _ t.1) in
               sound.alike y n low h t.0 (m.copies n low) (left _ _ t_in) (has g) (right t.0.stored _ t_new) ∙ left _ _ t_new
-      by false false g q e = (has g, sym (m.current (shown_by o w sound m n low fresh_h) p l) ∙ home_place o.home w.home p v l m.home e)
+      by false false g q e = (has g, sym (m.current (shown_by o w sound m n low fresh_h) p l) ∙ home_place o.home w.home p v l m.home (sym (eight_is (home_at o.home) p l) ∙ e))
         where
           fresh_h : is_fresh h ≡ true
           fresh_h = both (holds_data h.copy) _ (has g) (flip _ (by_false h.stored (λ r. sym q ∙ in_held newer h (both (S h) _ in_S (both (is_unique h.copy) _ u (both h.stored _ r (has g)))))))

@@ -1,5 +1,8 @@
 mod Finite
 mod Put
+mod Eight
+mod Sets
+mod Lines
 mod Rows
 mod Means
 mod Closing
@@ -18,5 +21,5 @@ mod Origin
 mod Kept
 mod Moments
 mod Runs
+mod Followed
 mod Values
-mod Larger

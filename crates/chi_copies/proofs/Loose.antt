@@ -1,20 +1,19 @@
 -- What one agent's hidden steps make of its set.
-use Rattle.std.proofs.Common.{rules, arith, ◌≡◌, ◌≢◌, inl, inr, ℕ, ◌<◌, refl, sym, ap, subst, ◌∙◌}
-use Rattle.std.specs.Prelude.{Bool, true, false, ◌&&◌, ◌||◌, not, Option, Some, None, List, ◌⊎◌}
+use Rattle.std.proofs.Common.{◌≡◌, ℕ, ◌<◌, refl, sym, ap, subst, ◌∙◌}
+use Rattle.std.specs.Prelude.{Bool, true, false, ◌&&◌, ◌||◌, not}
 use Rattle.chi_observer.specs.declared.flits.Due.{Due}
 use Rattle.chi_observer.specs.declared.flits.Due.TheVariants.{Nothing, Completion, Resending, SureCompletion, WriteData, Acknowledgement}
 use Rattle.chi_observer.specs.declared.flits.Stores.{Stores}
-use Rattle.chi_observer.specs.Copies.{holds_data, is_unique, is_dirty, is_clean, same}
+use Rattle.chi_observer.specs.Copies.{holds_data, is_unique, is_dirty, is_clean}
 use Rattle.chi_observer.specs.Rules.{are_hidden, is_resending}
-use Rattle.chi_copies.specs.Copies.{Held, Copies, is_fresh, is_newer, beside, same_held, any_held, image}
-use Rattle.chi_copies.specs.Rules.{is_free, may_be_free, freed, stored_to, dropped, slips, waits_without_news}
+use Rattle.chi_copies.specs.Copies.{Held, Copies, is_fresh, is_newer, beside, same_held, image}
+use Rattle.chi_copies.specs.Rules.{may_be_free, freed, stored_to, dropped, slips, waits_without_news}
 use Rattle.chi_copies.specs.Worlds.{World, put}
-use Rattle.chi_copies.specs.Observed.{Observed, Sound, Closed, Meaning, is_storable, is_shown_dirty, loose}
+use Rattle.chi_copies.specs.Observed.{Observed, Meaning, is_storable, is_shown_dirty, loose}
 use Rattle.chi_copies.specs.Laws.{MeaningLoosens}
-use Rattle.chi_copies.proofs.Finite.{no, left, right, both, implies, follow, either, or_left, or_right, all_helds, each_held, by_false, turned, flip, in_held, out_held, From, in_image, out_image}
-use Rattle.chi_copies.proofs.Rows.{same_truth, is_sane, same_held_is, same_held_self}
-use Rattle.chi_copies.proofs.Means.{sane, beside_back}
-use Rattle.chi_copies.proofs.Put.{here, there, split, pairwise}
+use Rattle.chi_copies.proofs.Finite.{no, left, right, both, implies, follow, either, or_left, or_right, all_helds, each_held, turned, in_image, out_image}
+use Rattle.chi_copies.proofs.Rows.{is_sane, same_held_is, same_held_self}
+use Rattle.chi_copies.proofs.Put.{here, there, split}
 
 -- THE WAYS OF A HIDDEN STEP
 pub data Slipped (z : Stores) (d : Due) (h k : Held) : Type 0 where

@@ -1,19 +1,18 @@
 -- What always holds holds behind one agent's hidden steps; and each world behind them comes from one before.
-use Rattle.std.proofs.Common.{rules, arith, ◌≡◌, ◌≢◌, inl, inr, ℕ, ◌<◌, refl, sym, ap, subst, ◌∙◌}
-use Rattle.std.specs.Prelude.{Bool, true, false, ◌&&◌, ◌||◌, not, Option, Some, None, List, ◌⊎◌}
+use Rattle.std.proofs.Common.{◌≡◌, ◌≢◌, ℕ, ◌<◌, sym, subst, ◌∙◌}
+use Rattle.std.specs.Prelude.{true, false, Some, List}
 use Rattle.chi_observer.specs.declared.flits.Due.{Due}
-use Rattle.chi_observer.specs.declared.flits.Due.TheVariants.{Nothing, Completion, Resending, SureCompletion, WriteData, Acknowledgement}
 use Rattle.chi_observer.specs.declared.flits.Stores.{Stores}
-use Rattle.chi_observer.specs.Copies.{holds_data, is_unique, is_dirty, is_clean, same}
+use Rattle.chi_observer.specs.Copies.{holds_data, is_dirty}
 use Rattle.chi_observer.specs.Rules.{are_hidden, is_resending}
-use Rattle.chi_copies.specs.Copies.{Held, Copies, is_fresh, is_newer, beside, same_held, any_held, image}
-use Rattle.chi_copies.specs.Rules.{is_free, may_be_free, freed, stored_to, dropped, slips, waits_without_news}
-use Rattle.chi_copies.specs.Worlds.{Public, World, Words, Same, Shown, put}
-use Rattle.chi_copies.specs.Observed.{Observed, Sound, Closed, Meaning, has_news, is_storable, is_shown_dirty, loose}
-use Rattle.chi_copies.proofs.Finite.{no, left, right, both, implies, follow, in_held, out_held, in_image}
+use Rattle.chi_copies.specs.Copies.{Held, Copies, is_fresh, is_newer, beside, any_held, image}
+use Rattle.chi_copies.specs.Rules.{slips, waits_without_news}
+use Rattle.chi_copies.specs.Worlds.{put}
+use Rattle.chi_copies.specs.Observed.{Observed, Sound, Closed, is_storable, is_shown_dirty, loose}
+use Rattle.chi_copies.proofs.Finite.{follow, in_held, out_held, in_image}
 use Rattle.chi_copies.proofs.Rows.{is_sane}
 use Rattle.chi_copies.proofs.Means.{sane, beside_back}
-use Rattle.chi_copies.proofs.Loose.{Slipped, Slip, slip_of, in_loose, slip_weakens, slip_sane, slip_fresh, slip_dirty, slip_shown, slip_seen, slip_waits, slip_listed, slip_once, slipped}
+use Rattle.chi_copies.proofs.Loose.{slip_of, in_loose, slip_weakens, slip_sane, slip_fresh, slip_dirty, slip_shown, slip_seen, slip_waits, slip_listed, slip_once, slipped}
 use Rattle.chi_copies.proofs.Put.{here, there, split, pairwise}
 
 -- of n, and of each other, one function being changed there

@@ -1,20 +1,18 @@
 -- What is meant is coherent, and hidden steps lead to nothing else.
-use Rattle.std.proofs.Common.{rules, arith, ◌≡◌, ◌≢◌, inl, inr, ℕ, ◌<◌, refl, sym, ap, subst, ◌∙◌}
-use Rattle.std.specs.Prelude.{Bool, true, false, ◌&&◌, ◌||◌, not, Option, Some, None, List, ◌⊎◌}
+use Rattle.std.proofs.Common.{◌≡◌, ◌≢◌, ℕ, ◌<◌, refl, sym, subst, ◌∙◌}
+use Rattle.std.specs.Prelude.{Bool, true, false, ◌&&◌, ◌||◌, not}
 use Rattle.chi_observer.specs.declared.flits.Due.{Due}
 use Rattle.chi_observer.specs.declared.flits.Due.TheVariants.{Nothing, Completion, Resending, SureCompletion, WriteData, Acknowledgement}
 use Rattle.chi_observer.specs.declared.flits.Stores.{Stores}
-use Rattle.chi_observer.specs.Copies.{holds_data, is_unique, is_dirty, is_clean, same, compatible}
-use Rattle.chi_observer.specs.Copies.Copy.{Invalid, UniqueDirty}
+use Rattle.chi_observer.specs.Copies.{holds_data, is_unique, is_clean, compatible}
 use Rattle.chi_observer.specs.Rules.{are_hidden, is_resending}
-use Rattle.chi_copies.specs.Copies.{Held, shown_of, is_lost, is_fresh, is_newer, beside, same_held}
-use Rattle.chi_copies.specs.Rules.{is_free, may_store, may_hide, may_be_free, freed, stored_to, dropped, slips}
-use Rattle.chi_copies.specs.Worlds.{Public, World, Words, Same, Shown, Coherent, Elsewhere, unchanged, StoresUnseen, Drops, Cancels, Hidden}
-use Rattle.chi_copies.specs.Observed.{Observed, Sound, Closed, Meaning, has_news, is_storable}
-use Rattle.chi_copies.specs.Laws.{MeaningIsCoherent, MeaningIsClosed}
-use Rattle.chi_copies.proofs.Finite.{no, left, right, both, implies, follow, or_left, or_right, turned, flip, by_false}
-use Rattle.chi_copies.proofs.Rows.{is_sane, beside_each, is_same, same_held_self}
-use Rattle.chi_copies.proofs.Put.{split}
+use Rattle.chi_copies.specs.Copies.{Held, shown_of, is_fresh, is_newer, beside, same_held}
+use Rattle.chi_copies.specs.Rules.{is_free, may_store, may_be_free, freed, stored_to, dropped, slips}
+use Rattle.chi_copies.specs.Worlds.{World, Words, Same}
+use Rattle.chi_copies.specs.Observed.{Observed, Sound, Meaning, is_storable}
+use Rattle.chi_copies.specs.Laws.{MeaningIsCoherent}
+use Rattle.chi_copies.proofs.Finite.{no, left, right, both, implies, follow, or_left, or_right, turned}
+use Rattle.chi_copies.proofs.Rows.{is_sane, beside_each, same_held_self}
 
 -- WORDS
 pub same_refl : (u : Words) → Same u u

@@ -1,14 +1,14 @@
 -- The moments that are kept are those that worlds have.
-use Rattle.std.proofs.Common.{rules, arith, ◌≡◌, ◌≢◌, inl, inr, ℕ, ◌<◌, zero, suc, refl, sym, ap, subst, ◌∙◌, eq-eqb}
-use Rattle.std.specs.Prelude.{Bool, true, false, ◌&&◌, ◌||◌, ◌==◌, not, List, ◌⊎◌, if◌then◌else◌}
+use Rattle.std.proofs.Common.{◌≡◌, ◌≢◌, ℕ, ◌<◌, refl, sym, ap, subst, ◌∙◌}
+use Rattle.std.specs.Prelude.{Bool, true, false, ◌&&◌, ◌||◌, ◌==◌, not}
 use Rattle.std.proofs.lemmas.Bool.{eqb-true}
 use Rattle.chi_observer.specs.Copies.{is_dirty}
-use Rattle.chi_copies.specs.Copies.{Held, Copies, any_held}
-use Rattle.chi_copies.specs.Worlds.{World, Shown, all_below}
+use Rattle.chi_copies.specs.Copies.{Held}
+use Rattle.chi_copies.specs.Worlds.{World, Shown}
 use Rattle.chi_copies.specs.Observed.{Observed, Sound, Meaning, any_of}
 use Rattle.chi_copies.specs.Moments.{none_dirty, home_is_last}
 use Rattle.chi_copies.specs.Runs.{IsCleaned}
-use Rattle.chi_copies.proofs.Finite.{no, left, right, both, by_truth, by_false, turned, flip, or_left, in_held, out_held}
+use Rattle.chi_copies.proofs.Finite.{no, left, right, both, by_false, turned, flip, in_held, out_held}
 use Rattle.chi_copies.proofs.Leads.{all_by}
 use Rattle.chi_copies.proofs.Comes.{all_out}
 use Rattle.chi_copies.proofs.Top.{each_in_some}

@@ -1,6 +1,6 @@
 -- A flit of a cache before hidden steps: what is kept.
-use Rattle.std.proofs.Common.{rules, arith, ◌≡◌, ◌≢◌, inl, inr, ℕ, ◌<◌, refl, sym, ap, subst, ◌∙◌}
-use Rattle.std.specs.Prelude.{Bool, true, false, ◌&&◌, ◌||◌, not, Option, Some, None, List, ◌⊎◌, if◌then◌else◌}
+use Rattle.std.proofs.Common.{◌≡◌, ◌≢◌, ℕ, ◌<◌, refl, sym, ap, subst, ◌∙◌}
+use Rattle.std.specs.Prelude.{Bool, true, false, ◌&&◌, ◌||◌, not, Option, Some, None, List, if◌then◌else◌}
 use Rattle.chi_observer.specs.declared.kinds.Kind.{Kind}
 use Rattle.chi_observer.specs.declared.flits.Due.{Due}
 use Rattle.chi_observer.specs.declared.flits.Due.TheVariants.{Nothing, Completion, Resending, SureCompletion, WriteData, Acknowledgement}
@@ -10,19 +10,19 @@ use Rattle.chi_observer.specs.declared.flits.Act.{Act}
 use Rattle.chi_observer.specs.declared.flits.Act.TheVariants.{Request, Resend, SnpResp, CompAck, CopyBackWrData, NonCopyBackWrData, Load, Store}
 use Rattle.chi_observer.specs.declared.flits.CacheFlit.{CacheFlit}
 use Rattle.chi_observer.specs.Copies.{holds_data, is_unique, is_dirty, is_clean}
-use Rattle.chi_observer.specs.Rules.{are_hidden, is_resending, same_kind, gives_up, has_data, writes, tells_words, looks, is_request, lets_go, due_after, word_at, allows, is_acknowledging, is_copy_back, is_whole_write}
-use Rattle.chi_copies.specs.Copies.{Held, Copies, shown_of, is_fresh, is_newer, beside, leaves, same_held, any_bool, any_held, image}
-use Rattle.chi_copies.specs.Rules.{is_free, may_store, may_hide, is_resent, is_due_data, lets, row, acts, loses, is_without_news, waits_without_news, slips, freed, dropped, stored_to}
-use Rattle.chi_copies.specs.Worlds.{Public, put, is_placed, others_then}
-use Rattle.chi_copies.specs.Observed.{Observed, Sound, Closed, is_storable, is_shown_dirty, known_of, may_own, fits_each, sends, sent, takes, shown_all, moved, next}
+use Rattle.chi_observer.specs.Rules.{are_hidden, is_resending, same_kind, gives_up, has_data, writes, tells_words, looks, lets_go, due_after, word_at, allows, is_acknowledging, is_copy_back, is_whole_write}
+use Rattle.chi_copies.specs.Copies.{Held, Copies, shown_of, is_fresh, is_newer, beside, leaves, same_held, any_bool, any_held}
+use Rattle.chi_copies.specs.Rules.{may_store, may_hide, is_resent, is_due_data, lets, row, acts, loses, is_without_news, waits_without_news, slips, freed, dropped}
+use Rattle.chi_copies.specs.Worlds.{is_placed, others_then}
+use Rattle.chi_copies.specs.Observed.{Observed, Sound, Closed, is_storable, is_shown_dirty, known_of, may_own, fits_each, sends, sent, takes, shown_all, moved}
 use Rattle.chi_copies.specs.Laws.{CacheFlitsKeepSound}
-use Rattle.chi_copies.proofs.Finite.{no, left, right, both, implies, follow, by_truth, by_false, turned, flip, all_helds, each_held, each_kind, all_kinds, in_held, out_held, out_bool, From, in_image, out_image}
-use Rattle.chi_copies.proofs.Rows.{is_sane, same_truth, same_truth_is, truth_same, leaves_is, same_held_is, same_held_self, none_some, some_is, RowFacts, row_facts, is_store_row, weaker, weaker_each, quiet, quiet_each, pair_fits, pair_each}
-use Rattle.chi_copies.proofs.Means.{sane, beside_back, beside_shown, none_newer, slip_free, slip_drop}
+use Rattle.chi_copies.proofs.Finite.{no, left, right, both, implies, follow, by_false, turned, flip, all_helds, each_held, each_kind, all_kinds, in_held, out_held, out_bool, in_image, out_image}
+use Rattle.chi_copies.proofs.Rows.{is_sane, same_truth, same_truth_is, truth_same, leaves_is, same_held_is, same_held_self, none_some, some_is, RowFacts, row_facts, is_store_row, weaker_each, quiet_each, pair_fits, pair_each}
+use Rattle.chi_copies.proofs.Means.{sane, beside_back, beside_shown, slip_free, slip_drop}
 use Rattle.chi_copies.proofs.Loose.{Slipped, slipped}
 use Rattle.chi_copies.proofs.Loose.Slipped.{Still, Freed, Store as StoreSlip, Drop}
 use Rattle.chi_copies.proofs.Loosened.{one, loose_sound, loose_closed}
-use Rattle.chi_copies.proofs.Put.{here, there, split, pairwise, everywhere}
+use Rattle.chi_copies.proofs.Put.{there, pairwise, everywhere}
 
 -- WHAT A FLIT SAYS OF THE COPY THAT SENT IT
 pub if_some : (c : Bool) (o : Option Held) (k : Held) → (if c then o else None) ≡ Some k → (c ≡ true) × (o ≡ Some k)

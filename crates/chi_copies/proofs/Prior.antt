@@ -1,20 +1,20 @@
 -- A world before a flit of a cache, made of what it has to be.
-use Rattle.std.proofs.Common.{rules, arith, ◌≡◌, ◌≢◌, inl, inr, ℕ, ◌<◌, refl, sym, ap, subst, ◌∙◌}
-use Rattle.std.specs.Prelude.{Bool, true, false, ◌&&◌, ◌||◌, not, Option, Some, None, List, if◌then◌else◌}
+use Rattle.std.proofs.Common.{◌≡◌, ◌≢◌, ℕ, ◌<◌, refl, sym, ap, subst, ◌∙◌}
+use Rattle.std.specs.Prelude.{Bool, true, false, Some, None, List, if◌then◌else◌}
 use Rattle.chi_observer.specs.declared.flits.Due.{Due}
 use Rattle.chi_observer.specs.declared.flits.Stores.{Stores}
 use Rattle.chi_observer.specs.declared.flits.Act.{Act}
 use Rattle.chi_observer.specs.declared.flits.CacheFlit.{CacheFlit}
 use Rattle.chi_observer.specs.Copies.{holds_data}
 use Rattle.chi_observer.specs.Rules.{gives_up, has_data, writes, tells_words, lets_go, word_at, allows}
-use Rattle.chi_copies.specs.Copies.{Held, Copies, shown_of, same_held, image}
+use Rattle.chi_copies.specs.Copies.{Held, Copies, shown_of, same_held}
 use Rattle.chi_copies.specs.Rules.{is_due_data, lets, row, acts}
-use Rattle.chi_copies.specs.Worlds.{World, Words, Same, Shown, Sends, StoresWord, has_word, is_placed, makes_value, keeps_value, put}
-use Rattle.chi_copies.specs.Observed.{Observed, Sound, Meaning, has_news, sent, takes, shown_all, moved}
+use Rattle.chi_copies.specs.Worlds.{World, Words, Same, Sends, StoresWord, has_word, is_placed, makes_value, keeps_value, put}
+use Rattle.chi_copies.specs.Observed.{Observed, Meaning, has_news, sent, shown_all, moved}
 use Rattle.chi_copies.specs.Laws.{ComesBy}
-use Rattle.chi_copies.proofs.Finite.{no, left, right, by_truth, out_image}
+use Rattle.chi_copies.proofs.Finite.{no, out_image}
 use Rattle.chi_copies.proofs.Rows.{same_held_is}
-use Rattle.chi_copies.proofs.Means.{same_refl, same_by, same_trans}
+use Rattle.chi_copies.proofs.Means.{same_by, same_trans}
 use Rattle.chi_copies.proofs.Moved.{others_after, others_if}
 use Rattle.chi_copies.proofs.Put.{here, there, split}
 

@@ -1,22 +1,22 @@
 -- Each world behind one agent's hidden steps comes from one before.
-use Rattle.std.proofs.Common.{rules, arith, ◌≡◌, ◌≢◌, inl, inr, ℕ, ◌<◌, refl, sym, ap, subst, ◌∙◌}
-use Rattle.std.specs.Prelude.{Bool, true, false, ◌&&◌, ◌||◌, not, Option, Some, None, List, ◌⊎◌, if◌then◌else◌}
+use Rattle.std.proofs.Common.{◌≡◌, ◌≢◌, inl, inr, ℕ, ◌<◌, refl, sym, ap, subst, ◌∙◌}
+use Rattle.std.specs.Prelude.{Bool, true, false, ◌&&◌, ◌||◌, not, Option, Some, None, if◌then◌else◌}
 use Rattle.chi_observer.specs.declared.flits.Due.{Due}
 use Rattle.chi_observer.specs.declared.flits.Due.TheVariants.{Nothing, Completion, Resending, SureCompletion, WriteData, Acknowledgement}
 use Rattle.chi_observer.specs.declared.flits.Stores.{Stores}
 use Rattle.chi_observer.specs.declared.flits.Stores.TheVariants.{Hidden as HiddenStores, Listed}
-use Rattle.chi_observer.specs.Copies.{holds_data, is_unique, is_dirty, is_clean, same}
-use Rattle.chi_observer.specs.Rules.{are_hidden, is_resending, word_at}
-use Rattle.chi_copies.specs.Copies.{Held, Copies, is_fresh, is_newer, beside, same_held, image}
-use Rattle.chi_copies.specs.Rules.{is_free, may_store, may_hide, may_be_free, freed, stored_to, dropped, slips}
+use Rattle.chi_observer.specs.Copies.{holds_data, is_unique, is_clean}
+use Rattle.chi_observer.specs.Rules.{are_hidden, is_resending}
+use Rattle.chi_copies.specs.Copies.{Held, Copies, is_newer, same_held, image}
+use Rattle.chi_copies.specs.Rules.{is_free, may_hide, may_be_free, freed, stored_to, dropped, slips}
 use Rattle.chi_copies.specs.Worlds.{Public, World, Words, Same, Shown, Elsewhere, unchanged, Hidden, Drift, put}
 use Rattle.chi_copies.specs.Worlds.Drift.{Stay, Step}
-use Rattle.chi_copies.specs.Observed.{Observed, Sound, Meaning, has_news, is_storable, loose}
+use Rattle.chi_copies.specs.Observed.{Observed, Sound, Meaning, has_news, loose}
 use Rattle.chi_copies.specs.Laws.{Rewound, MeaningRewinds}
-use Rattle.chi_copies.proofs.Finite.{no, left, right, both, implies, follow, by_truth, all_helds, each_held, turned, flip, or_right}
+use Rattle.chi_copies.proofs.Finite.{no, left, right, both, implies, follow, by_truth, all_helds, each_held, turned}
 use Rattle.chi_copies.proofs.Rows.{is_sane, same_held_is}
-use Rattle.chi_copies.proofs.Means.{same_refl, same_by, same_sym, same_trans, sane, alone_data}
-use Rattle.chi_copies.proofs.Loose.{Slipped, Slip, slip_of}
+use Rattle.chi_copies.proofs.Means.{same_refl, same_by, same_trans, sane, alone_data}
+use Rattle.chi_copies.proofs.Loose.{Slipped, slip_of}
 use Rattle.chi_copies.proofs.Loose.Slipped.{Still, Freed, Store, Drop}
 use Rattle.chi_copies.proofs.Put.{here, there, split}
 

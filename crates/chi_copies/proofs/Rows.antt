@@ -1,19 +1,14 @@
 -- What the rows of the relation have in common: tried at each place.
-use Rattle.std.proofs.Common.{rules, arith, ◌≡◌, refl, sym, ap, subst, ◌∙◌}
-use Rattle.std.specs.Prelude.{Bool, true, false, ◌&&◌, ◌||◌, not, Option, Some, None, if◌then◌else◌}
-use Rattle.chi_flit.specs.declared.state.State.{State}
-use Rattle.chi_observer.specs.declared.kinds.Kind.{Kind}
+use Rattle.std.proofs.Common.{rules, arith, ◌≡◌, refl, sym, ap, subst}
+use Rattle.std.specs.Prelude.{Bool, true, false, ◌&&◌, ◌||◌, not, Option, Some, None}
 use Rattle.chi_observer.specs.declared.flits.Word.{Word}
-use Rattle.chi_observer.specs.declared.flits.Answer.{Answer}
-use Rattle.chi_observer.specs.declared.flits.Stores.{Stores}
-use Rattle.chi_observer.specs.declared.flits.Due.{Due}
 use Rattle.chi_observer.specs.declared.flits.Act.{Act}
 use Rattle.chi_observer.specs.declared.flits.Act.TheVariants.{Request, Resend, SnpResp, CompAck, CopyBackWrData, NonCopyBackWrData, Load, Store}
-use Rattle.chi_observer.specs.Copies.{Copy, holds_data, is_unique, is_dirty, is_clean, same, compatible}
-use Rattle.chi_observer.specs.Rules.{gives_up, has_data, writes, tells_words, looks, is_request, stores}
-use Rattle.chi_copies.specs.Copies.{Held, shown_of, is_lost, is_fresh, is_newer, beside, alike, same_held, leaves}
-use Rattle.chi_copies.specs.Rules.{is_due_data, is_without_news, stored_to, lets, row, acts, loses}
-use Rattle.chi_copies.specs.Worlds.{others_then, makes_value}
+use Rattle.chi_observer.specs.Copies.{Copy, holds_data, is_unique, is_dirty, same, compatible}
+use Rattle.chi_observer.specs.Rules.{has_data, writes, tells_words, looks, is_request}
+use Rattle.chi_copies.specs.Copies.{Held, shown_of, is_fresh, is_newer, beside, alike, same_held, leaves}
+use Rattle.chi_copies.specs.Rules.{is_without_news, stored_to, row, loses}
+use Rattle.chi_copies.specs.Worlds.{others_then}
 use Rattle.chi_copies.specs.Observed.{is_storable, is_shown_dirty}
 use Rattle.chi_copies.proofs.Finite.{no, left, right, both, implies, follow, all_bools, each_bool, all_forms, each_form, all_kinds, each_kind, all_answers, each_answer, all_helds, each_held}
 

@@ -1,6 +1,6 @@
 -- Whole traces.
-use Rattle.std.proofs.Common.{rules, arith, ◌≡◌, ◌≢◌, inl, inr, ℕ, ◌<◌, [], ◌∷◌, refl, sym, ap, subst, ◌∙◌}
-use Rattle.std.specs.Prelude.{Bool, true, false, ◌&&◌, ◌||◌, not, Option, Some, None, List, ◌⊎◌, if◌then◌else◌}
+use Rattle.std.proofs.Common.{rules, arith, ◌≡◌, inl, inr, ℕ, [], ◌∷◌, refl, sym, ap, subst, ◌∙◌}
+use Rattle.std.specs.Prelude.{Bool, true, false, ◌&&◌, ◌||◌, not, Some, None, List, ◌⊎◌, if◌then◌else◌}
 use Rattle.chi_observer.specs.declared.flits.Due.TheVariants.{Nothing}
 use Rattle.chi_observer.specs.declared.flits.Stores.{Stores}
 use Rattle.chi_observer.specs.declared.flits.Flit.{Flit}
@@ -8,17 +8,17 @@ use Rattle.chi_observer.specs.declared.flits.Flit.TheVariants.{Up, Down}
 use Rattle.chi_observer.specs.declared.flits.HomeFlit.{HomeFlit}
 use Rattle.chi_observer.specs.Copies.{holds_data}
 use Rattle.chi_observer.specs.Copies.Copy.{Invalid}
-use Rattle.chi_observer.specs.Rules.{needs_moment, awaits_moment, reads_once, word_at}
+use Rattle.chi_observer.specs.Rules.{needs_moment, awaits_moment, reads_once}
 use Rattle.chi_copies.specs.Copies.{Held, plain, same_held, is_fresh, beside}
 use Rattle.chi_copies.specs.Rules.{slips}
-use Rattle.chi_copies.specs.Worlds.{Public, World, Same, Shown, Sends, Gives, Drift, IsSafe, public_after, public_granted}
+use Rattle.chi_copies.specs.Worlds.{World, Sends, Gives, Drift, IsSafe, public_after, public_granted}
 use Rattle.chi_copies.specs.Worlds.Drift.{Stay, Step}
-use Rattle.chi_copies.specs.Observed.{Observed, Sound, Closed, Meaning, is_shown_dirty, moved, given, next, next_home, loose}
-use Rattle.chi_copies.specs.Moments.{behind, is_issue, is_moment, shown_after, has_moment, home_is_last, none_dirty}
-use Rattle.chi_copies.specs.Runs.{quiet_public, public_of, After, Behind, IsMoment, HasMoment, HasNeeded, Accepted, Legal, IsExact, nothing_told, seen, shown_by, LegalIsAccepted, AcceptedIsLegal, AcceptedIsExact, AcceptedIsCoherent}
-use Rattle.chi_copies.proofs.Finite.{no, left, right, both, by_truth, either, or_left, or_right, turned, flip}
-use Rattle.chi_copies.proofs.Rows.{same_held_is, same_held_self, some_is, is_same}
-use Rattle.chi_copies.proofs.Means.{coherent, same_refl, same_sym}
+use Rattle.chi_copies.specs.Observed.{Observed, Sound, Closed, Meaning, is_shown_dirty, moved, given, next, next_home}
+use Rattle.chi_copies.specs.Moments.{behind, is_issue, is_moment, has_moment, home_is_last, none_dirty}
+use Rattle.chi_copies.specs.Runs.{public_of, Behind, IsMoment, HasMoment, HasNeeded, Accepted, nothing_told, seen, shown_by, LegalIsAccepted, AcceptedIsLegal, AcceptedIsExact, AcceptedIsCoherent}
+use Rattle.chi_copies.proofs.Finite.{no, left, right, both, either, or_left, or_right, turned, flip}
+use Rattle.chi_copies.proofs.Rows.{same_held_is, is_same}
+use Rattle.chi_copies.proofs.Means.{coherent}
 use Rattle.chi_copies.proofs.Closing.{closed}
 use Rattle.chi_copies.proofs.Loose.{loosened, slipped, Slipped}
 use Rattle.chi_copies.proofs.Loose.Slipped.{Still, Freed, Store, Drop}

@@ -10,7 +10,7 @@ use Rattle.chi_observer.specs.Rules.{is_due, needs_alone, makes, settles, gives_
 use Rattle.chi_copies.specs.Copies.{Held, Copies, is_lost, is_fresh, is_newer, beside}
 use Rattle.chi_copies.specs.Rules.{granted, fills, shows, renews}
 use Rattle.chi_copies.specs.Worlds.{Public, World, Words, Same, Coherent, Gives, Informed, IsSafe, home_may, others_given, put}
-use Rattle.chi_copies.specs.Observed.{Observed, Sound, Meaning, any_of, got, given_of, is_beside, goes, fits_home, takes_home}
+use Rattle.chi_copies.specs.Observed.{Observed, Sound, Meaning, any_of, got, given_of, is_beside, fits_home, takes_home}
 use Rattle.chi_copies.specs.Laws.{SomeInformed, HomeFlitsArePossible, SafeFlitsAreTaken}
 use Rattle.chi_copies.proofs.Finite.{no, left, right, both, implies, follow, either, by_truth, turned, flip, by_false, all_helds, each_held, out_held}
 use Rattle.chi_copies.proofs.Rows.{is_sane}

@@ -3,7 +3,9 @@ pub mod Rules
 pub mod Worlds
 pub mod Observed
 pub mod Moments
+pub mod Sets
+pub mod Lines
+pub mod Told
 pub mod Runs
-pub mod Values
-pub mod Above
 pub mod Laws
+pub mod Values

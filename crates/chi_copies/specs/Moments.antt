@@ -1,12 +1,11 @@
 -- Moments at which no other copy was dirty, or the home had the value last stored, as the observer keeps them
 -- (docs/COPIES.md, "What is kept").
-use Rattle.std.specs.Prelude.{ℕ, Bool, true, false, ◌&&◌, ◌||◌, ◌==◌, not, if◌then◌else◌}
+use Rattle.std.specs.Prelude.{ℕ, Bool, false, ◌&&◌, ◌||◌, ◌==◌, not, if◌then◌else◌}
 use Rattle.chi_observer.specs.declared.flits.HomeFlit.{HomeFlit}
 use Rattle.chi_observer.specs.declared.flits.Flit.{Flit}
 use Rattle.chi_observer.specs.declared.flits.Flit.TheVariants.{Up, Down}
 use Rattle.chi_observer.specs.Copies.{is_dirty}
 use Rattle.chi_observer.specs.Rules.{is_request, awaits_moment, reads_once, needs_moment}
-use Rattle.chi_copies.specs.Copies.{Held, any_held}
 use Rattle.chi_copies.specs.Worlds.{all_below}
 use Rattle.chi_copies.specs.Observed.{Observed, any_of, moved, given}
 

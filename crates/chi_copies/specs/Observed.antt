@@ -1,18 +1,16 @@
 -- What the observer keeps of a line, which flits it takes, and which worlds that stands for (docs/COPIES.md, "What is kept",
 -- "What is proved").
-use Rattle.std.specs.Prelude.{◌≡◌, ◌≢◌, ℕ, ◌<◌, ◌==◌, List, Bool, true, false, ◌&&◌, ◌||◌, not, Option, Some, None, if◌then◌else◌}
+use Rattle.std.specs.Prelude.{◌≡◌, ◌≢◌, ℕ, ◌<◌, ◌==◌, List, Bool, true, false, ◌&&◌, ◌||◌, not, nat_lt, Option, Some, None, if◌then◌else◌}
 use Rattle.chi_observer.specs.declared.flits.Act.{Act}
 use Rattle.chi_observer.specs.declared.flits.Act.TheVariants.{Load, Store}
-use Rattle.chi_observer.specs.declared.flits.Due.{Due}
-use Rattle.chi_observer.specs.declared.flits.Stores.{Stores}
 use Rattle.chi_observer.specs.declared.flits.CacheFlit.{CacheFlit}
 use Rattle.chi_observer.specs.declared.flits.HomeFlit.{HomeFlit}
 use Rattle.chi_observer.specs.Copies.{holds_data, is_unique, is_dirty, same}
 use Rattle.chi_observer.specs.Copies.Copy.{Invalid, UniqueDirty}
-use Rattle.chi_observer.specs.Rules.{word_at, has_data, tells_words, looks, is_request, lets_go, needs_alone, makes, allows, are_hidden, is_resending}
+use Rattle.chi_observer.specs.Rules.{word_at, has_data, tells_words, is_request, lets_go, needs_alone, makes, allows, are_hidden, is_resending}
 use Rattle.chi_copies.specs.Copies.{Held, Copies, shown_of, is_fresh, is_newer, beside, leaves, same_held, any_bool, any_held, image, all_beside}
-use Rattle.chi_copies.specs.Rules.{may_hide, acts, slips, granted, fills, shows, renews, waits_without_news}
-use Rattle.chi_copies.specs.Worlds.{Public, World, Words, Same, Shown, home_may, all_below, put, is_placed, others_then, others_given, public_after, public_granted}
+use Rattle.chi_copies.specs.Rules.{may_hide, acts, slips, granted, fills, shows, waits_without_news}
+use Rattle.chi_copies.specs.Worlds.{Public, World, Words, Same, Shown, home_may, all_below, put, is_placed, others_given, public_after, public_granted}
 
 -- what flits say by themselves; what each copy may be, behind hidden steps; the home's words, where flits have shown them; and the
 -- words that are known of the value where the home hasn't it
@@ -107,10 +105,14 @@ shown_all S = image (λ h k. same_held (shown_of h) k) S
 abbrev pub no_words : ℕ → Option ℕ
 no_words p = None
 
+-- a line has eight words
+abbrev pub of_eight : (ℕ → Option ℕ) → ℕ → Option ℕ
+of_eight k p = if nat_lt p 8 then k p else None
+
 -- the words that are known of all copies of n that a store may be to
 abbrev pub known_before : Observed → ℕ → Copies → ℕ → Option ℕ
 known_before o n S p = if any_held (λ h. S h && (is_unique h.copy && not (holds_data h.copy))) then None
-    else (if any_held (λ h. S h && (is_unique h.copy && is_newer h)) then o.news p else home_at o.home p)
+    else (if any_held (λ h. S h && (is_unique h.copy && is_newer h)) then o.news p else of_eight (home_at o.home) p)
 
 abbrev pub forgets : Observed → CacheFlit → Bool
 forgets o f = are_hidden o.public.stores && (is_request f.act && any_held (λ h. sent o f h && is_newer h))

@@ -1,8 +1,8 @@
 -- What a cache may send from a copy, what is left of it, what a flit of the home makes of it, and its unseen steps: the one relation
 -- of one copy, which worlds and sets share (Arm IHI 0050 B, chapter 4; docs/COPIES.md, "The relation").
-use Rattle.std.specs.Prelude.{ℕ, List, Bool, true, false, ◌&&◌, ◌||◌, not, Option, Some, None, if◌then◌else◌}
+use Rattle.std.specs.Prelude.{Bool, true, false, ◌&&◌, ◌||◌, not, Option, Some, None, if◌then◌else◌}
 use Rattle.chi_observer.specs.declared.flits.Due.{Due}
-use Rattle.chi_observer.specs.declared.flits.Due.TheVariants.{Nothing, Completion, Resending, SureCompletion, WriteData, Acknowledgement}
+use Rattle.chi_observer.specs.declared.flits.Due.TheVariants.{Nothing, Resending, WriteData, Acknowledgement}
 use Rattle.chi_observer.specs.declared.flits.Stores.{Stores}
 use Rattle.chi_observer.specs.declared.flits.Act.{Act}
 use Rattle.chi_observer.specs.declared.flits.Act.TheVariants.{Request, Resend, SnpResp, CompAck, CopyBackWrData, NonCopyBackWrData, Load, Store}
@@ -10,8 +10,8 @@ use Rattle.chi_observer.specs.declared.flits.Grant.{Grant}
 use Rattle.chi_flit.specs.declared.state.State.TheVariants.{I}
 use Rattle.chi_observer.specs.declared.kinds.Kind.{Kind}
 use Rattle.chi_observer.specs.declared.kinds.Kind.TheVariants.{WriteBackFull, WriteCleanFull}
-use Rattle.chi_observer.specs.Copies.{Copy, copy_of, holds_data, is_unique, is_dirty, is_clean, same}
-use Rattle.chi_observer.specs.Copies.Copy.{Invalid, UniqueEmpty, UniqueDirty, Writing}
+use Rattle.chi_observer.specs.Copies.{copy_of, holds_data, is_unique, is_dirty, is_clean, same}
+use Rattle.chi_observer.specs.Copies.Copy.{Invalid, UniqueDirty, Writing}
 use Rattle.chi_observer.specs.Rules.{is_issued_from, issued, same_kind, is_copy_back, is_whole_write, gives_up, is_answered_from, answered, answer_drops, answer_has_data, throws, is_written_from, cleaned, form_has_data, are_hidden, is_resending, is_acknowledging, gives_copy, gives_data, copy_granted, makes, settles, is_open_of}
 use Rattle.chi_copies.specs.Copies.{Held, same_held}
 

@@ -1,5 +1,5 @@
 -- Whole traces, the newest flit first; z: whether stores may be hidden (docs/COPIES.md, "Worlds", "What is proved").
-use Rattle.std.specs.Prelude.{◌≡◌, ◌≢◌, ◌⊎◌, ℕ, ◌<◌, Bool, true, false, ◌&&◌, None, List, [], ◌∷◌, ⊤}
+use Rattle.std.specs.Prelude.{◌≡◌, ◌≢◌, ◌⊎◌, ℕ, ◌<◌, Bool, true, false, None, List, [], ◌∷◌, ⊤}
 use Rattle.chi_observer.specs.declared.flits.Due.TheVariants.{Nothing}
 use Rattle.chi_observer.specs.declared.flits.Stores.{Stores}
 use Rattle.chi_observer.specs.declared.flits.Flit.{Flit}

@@ -1,6 +1,6 @@
 -- The truth of one line: worlds, hidden steps, what a cache may send in a world, and when a flit of the home is safe there
 -- (docs/COPIES.md, "Worlds").
-use Rattle.std.specs.Prelude.{◌≡◌, ◌≢◌, ◌⊎◌, ℕ, ◌<◌, List, Bool, true, false, ◌&&◌, ◌||◌, ◌==◌, not, Option, Some, suc, zero, nat_lt, ⊤, if◌then◌else◌}
+use Rattle.std.specs.Prelude.{◌≡◌, ◌≢◌, ◌⊎◌, ℕ, ◌<◌, Bool, true, false, ◌&&◌, ◌||◌, ◌==◌, not, Option, Some, suc, zero, nat_lt, ⊤, if◌then◌else◌}
 use Rattle.chi_observer.specs.declared.kinds.Snoop.{Snoop}
 use Rattle.chi_observer.specs.declared.flits.Due.{Due}
 use Rattle.chi_observer.specs.declared.flits.Stores.{Stores}
@@ -8,7 +8,7 @@ use Rattle.chi_observer.specs.declared.flits.Act.{Act}
 use Rattle.chi_observer.specs.declared.flits.Act.TheVariants.{Load, Store}
 use Rattle.chi_observer.specs.declared.flits.CacheFlit.{CacheFlit}
 use Rattle.chi_observer.specs.declared.flits.HomeFlit.{HomeFlit}
-use Rattle.chi_observer.specs.Copies.{holds_data, is_unique, is_clean, is_dirty, same, compatible}
+use Rattle.chi_observer.specs.Copies.{holds_data, is_unique, is_clean, same, compatible}
 use Rattle.chi_observer.specs.Copies.Copy.{Invalid}
 use Rattle.chi_observer.specs.Rules.{is_resending, are_hidden, word_at, lets_go, allows, has_data, writes, tells_words, stores, needs_alone, makes, settles, overwrites, needs_overwriter, due_after, snooped_after, passes_duty, is_due, needs_duty, needs_quiet, is_busy, due_granted, snooped_granted}
 use Rattle.chi_copies.specs.Copies.{Held, shown_of}

@@ -1,9 +1,9 @@
 //! Laws of the rules.
 
 ghost use Rattle.chi_copies.specs.Laws.{MeaningIsCoherent, MeaningIsClosed, MeaningLoosens, MeaningRewinds, EachIsInSome, CacheFlitsAreTaken, CacheFlitsLead, CacheFlitsKeepSound, MeaningComes, HomeFlitsKeepSound, HomeFlitsAreSafe, HomeFlitsLead, HomeFlitsArePossible, SafeFlitsAreTaken, MeaningComesByHome};
+ghost use Rattle.chi_copies.specs.Told.{NewIsTold, TakenIsTold, TakenIsAccepted, AcceptedIsTaken};
 ghost use Rattle.chi_copies.specs.Runs.{LegalIsAccepted, AcceptedIsLegal, AcceptedIsExact, AcceptedIsCoherent};
 ghost use Rattle.chi_copies.specs.Values.{ReadOnceShowsValue};
-ghost use Rattle.chi_copies.specs.Above.{AboveTakes, StaysAbove, AboveMeansMore, SoundIsAbove, NothingIsAboveAll};
 
 /// The law that each world that the sets stand for is coherent, that hidden steps lead to just those that they stand for, and that
 /// each copy of a set is in some world.
@@ -49,13 +49,12 @@ pub fn traces()
     ensures values { ReadOnceShowsValue }
 {}
 
-/// The law that an observer that thinks more copies possible, and knows less of the words, takes each flit of a cache that another
-/// takes, and goes on to think so; so does one that knows nothing.
+/// The law of a line's calls: a new `Line` is told nothing, one that takes a flit is told it, and it takes a flit exactly where the
+/// trace is accepted with it.
 /// Source: `docs/COPIES.md`, "What is proved".
-pub fn above()
-    ensures takes { AboveTakes }
-    ensures stays { StaysAbove }
-    ensures means { AboveMeansMore }
-    ensures sound { SoundIsAbove }
-    ensures nothing { NothingIsAboveAll }
+pub fn calls()
+    ensures starts { NewIsTold }
+    ensures told { TakenIsTold }
+    ensures accepted { TakenIsAccepted }
+    ensures taken { AcceptedIsTaken }
 {}

@@ -1,9 +1,21 @@
-//! What a cache's copy of one line may be, as a set of copies: the rules of one copy, which worlds and sets share, and the laws of
-//! whole traces.
+//! What a cache's copy of one line may be, as a set of copies: the rules of one copy, which worlds and sets share, a line that
+//! judges flits by them, and the laws of whole traces.
 //!
 //! Source: Arm IHI 0050 Issue B, chapter 4, as `docs/COPIES.md` reads it.
 #![tactic(auto)]
 
+mod acts;
+mod copies;
+mod held;
 mod laws;
+mod line;
+mod rules;
+mod sends;
+mod steps;
+mod tests;
+mod timed;
 
-pub use laws::{above, cache_flits, home_flits, meaning, traces};
+pub use copies::{Copies, NOBODY};
+pub use held::{CacheCopy, Held};
+pub use laws::{cache_flits, calls, home_flits, meaning, traces};
+pub use line::{AGENTS, Line, Reason};

@@ -2,9 +2,11 @@
 
 use crate::rows::ROWS;
 use crate::said::{OLD, Said, said_by};
+use chi_copies::Line;
 use chi_flit::{Agent, Data, NO_DATA, State};
 use chi_observer::{
-    Act, Arrivals, Begun, CacheFlit, Flit, Grant, HomeFlit, Kind, Stores, Untaken, WordedObserver,
+    Act, Arrivals, Begun, CacheFlit, Flit, Grant, HomeFlit, Kind, Reason, Stores, Untaken,
+    WordedObserver,
 };
 
 /// What judges the flits of a row.
@@ -13,6 +15,8 @@ enum Judge {
     Whole(WordedObserver),
     Home(Arrivals),
     Begun(Begun),
+    /// By sets of copies: whether a flit is accepted, and no reason.
+    Copies(Line),
 }
 
 impl Judge {
@@ -27,8 +31,29 @@ impl Judge {
         }
     }
 
+    /// The judge by sets of copies that stands for the first word of a row, if there is one.
+    fn with_sets(word: &str) -> Option<Judge> {
+        match word.as_bytes() {
+            b"hidden" => Some(Judge::Copies(Line::new(Stores::Hidden))),
+            b"listed" => Some(Judge::Copies(Line::new(Stores::Listed))),
+            _ => None,
+        }
+    }
+
+    /// Whether the judge says of a flit what is wanted.
+    fn says(&mut self, flit: Flit, wanted: Result<(), Untaken>) -> bool {
+        let is_by_sets = matches!(self, Judge::Copies(_));
+        let said = self.take(flit);
+        said == wanted || is_by_sets && said.is_ok() == wanted.is_ok()
+    }
+
     fn take(&mut self, flit: Flit) -> Result<(), Untaken> {
         match self {
+            Judge::Copies(line) => match flit {
+                Flit::Up(sent) => line.take(sent),
+                Flit::Down(given) => line.take_home(given),
+            }
+            .map_err(|_| Untaken::Fault(Reason::NotSent)),
             Judge::Whole(observer) => observer.take(flit).map_err(Untaken::Fault),
             Judge::Home(arrivals) => arrivals.take(flit),
             Judge::Begun(begun) => begun.take(flit).map_err(Untaken::Fault),
@@ -128,7 +153,7 @@ impl Draft {
             (None, Some(grant)) => home_flit(self.agent, grant, self.shown),
             _ => return false,
         };
-        judge.take(flit) == self.wanted
+        judge.says(flit, self.wanted)
     }
 }
 
@@ -141,13 +166,9 @@ fn sent_again(act: Act) -> Act {
 }
 
 /// Whether the flits from this one on are judged as the row wants; the row's first two words are passed over.
-fn is_row_so(row: &str, first: usize) -> bool {
-    let mut words = row.split_whitespace();
-    let Some(mut judge) = words.next().and_then(Judge::named) else {
-        return false;
-    };
+fn is_row_so(row: &str, first: usize, mut judge: Judge) -> bool {
     let (mut draft, mut place) = (Draft::EMPTY, 0usize);
-    for word in words.skip(1) {
+    for word in row.split_whitespace().skip(2) {
         if word != ";" {
             let Some(more) = draft.with(word) else {
                 return false;
@@ -164,12 +185,28 @@ fn is_row_so(row: &str, first: usize) -> bool {
     place < first || draft.is_judged_so(&mut judge)
 }
 
+/// Whether a row that is judged as its first word says is so from this flit on.
+fn is_named_row_so(row: &str, first: usize) -> bool {
+    match row.split_whitespace().next().and_then(Judge::named) {
+        Some(judge) => is_row_so(row, first, judge),
+        None => false,
+    }
+}
+
 /// Whether the row is so: of tails, from each of its flits on.
 fn is_whole_row_so(row: &str) -> bool {
     if !row.starts_with("tails") {
-        return is_row_so(row, 0);
+        return is_named_row_so(row, 0);
     }
-    (0..16).all(|first| is_row_so(row, first))
+    (0..16).all(|first| is_named_row_so(row, first))
+}
+
+/// Whether sets of copies accept just what the row accepts, where they judge it.
+fn is_row_so_by_sets(row: &str) -> bool {
+    match row.split_whitespace().next().and_then(Judge::with_sets) {
+        Some(judge) => is_row_so(row, 0, judge),
+        None => true,
+    }
 }
 
 #[test]
@@ -177,6 +214,15 @@ fn flits_are_judged_as_their_rows_say(rt: HostRuntime) {
     for rows in ROWS {
         for row in rows {
             assert!(rt; is_whole_row_so(row), "{row}");
+        }
+    }
+}
+
+#[test]
+fn sets_of_copies_accept_what_the_rows_accept(rt: HostRuntime) {
+    for rows in ROWS {
+        for row in rows {
+            assert!(rt; is_row_so_by_sets(row), "{row}");
         }
     }
 }

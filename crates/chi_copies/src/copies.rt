@@ -1,0 +1,97 @@
+//! Sets of copies.
+
+ghost use Rattle.std.specs.Prelude.{◌≡◌, ◌<◌, ◌||◌, false};
+ghost use Rattle.chi_copies.specs.Copies.{Held as HeldOf, same_held};
+ghost use Rattle.chi_copies.specs.Sets.{copy_at, copy_is, held_at, held_is, members, place_of, place_of_copy};
+
+use crate::held::{CacheCopy, Held};
+
+/// A set of copies.
+/// Source: `docs/COPIES.md`, "What a copy is".
+#[derive(Clone, Copy, Debug, PartialEq, Eq)]
+pub struct Copies {
+    /// One bit of each copy.
+    pub bits: u32,
+}
+
+/// The set of no copy alone: of an agent of whom nothing was told.
+/// Source: `docs/COPIES.md`, "What is kept".
+pub const NOBODY: Copies = Copies { bits: 1 };
+
+/// The bit of a copy by what its cache has.
+fn place_of_copy(copy: CacheCopy) -> u32
+    ensures { result ≡ place_of_copy (copy_is copy) }
+{
+    match copy {
+        CacheCopy::Invalid => 0,
+        CacheCopy::SharedClean => 1,
+        CacheCopy::UniqueClean => 2,
+        CacheCopy::UniqueEmpty => 3,
+        CacheCopy::UniqueDirty => 4,
+        CacheCopy::SharedDirty => 5,
+        CacheCopy::Writing => 6,
+    }
+}
+
+/// The bit of a copy.
+fn place_of(held: Held) -> u32
+    ensures is { result ≡ place_of (held_is held) }
+    ensures low { result < 28 }
+{
+    let copy = place_of_copy(held.copy);
+    let cancelled = if held.cancelled { 7 } else { 0 };
+    let stored = if held.stored { 14 } else { 0 };
+    copy + (cancelled + stored)
+}
+
+/// The copy of a bit.
+pub(crate) fn held_at(place: u32) -> Held
+    ensures { held_is result ≡ held_at place }
+{
+    Held {
+        copy: copy_at(place % 7),
+        cancelled: place / 7 % 2 == 1,
+        stored: place / 14 == 1,
+    }
+}
+
+/// What its cache has.
+fn copy_at(place: u32) -> CacheCopy
+    ensures { copy_is result ≡ copy_at place }
+{
+    match place {
+        0 => CacheCopy::Invalid,
+        1 => CacheCopy::SharedClean,
+        2 => CacheCopy::UniqueClean,
+        3 => CacheCopy::UniqueEmpty,
+        4 => CacheCopy::UniqueDirty,
+        5 => CacheCopy::SharedDirty,
+        _ => CacheCopy::Writing,
+    }
+}
+
+impl Copies {
+    /// The set of none.
+    pub(crate) fn empty() -> Copies
+        ensures { (h : HeldOf) → members result h ≡ false }
+    {
+        Copies { bits: 0 }
+    }
+
+    /// Whether it has the copy.
+    /// Source: `docs/COPIES.md`, "What a copy is".
+    pub fn contains(self, held: Held) -> bool
+        ensures { result ≡ members self (held_is held) }
+    {
+        self.bits >> place_of(held) & 1 == 1
+    }
+
+    /// The set with the copy.
+    pub(crate) fn with(self, held: Held) -> Copies
+        ensures { (h : HeldOf) → members result h ≡ (members self h || same_held (held_is held) h) }
+    {
+        Copies {
+            bits: self.bits | 1 << place_of(held),
+        }
+    }
+}

@@ -1,0 +1,606 @@
+//! A line.
+
+ghost use Rattle.std.specs.Prelude.{◌≡◌, ◌<◌, ◌&&◌, ◌||◌, ◌==◌, ℕ, IfSome, OnErr, OnOk, Some, false, is_ok, is_some, if◌then◌else◌, not, true};
+ghost use Rattle.chi_observer.specs.Rules.{is_busy, needs_duty, overwrites, passes_duty, tells_words};
+ghost use Rattle.chi_copies.specs.Rules.{shows};
+ghost use Rattle.chi_copies.specs.declared.tests.Test.TheVariants.{FillsStored};
+ghost use Rattle.chi_copies.specs.Copies.{Held as HeldOf};
+ghost use Rattle.chi_copies.specs.Observed.{any_of, fits_home, forgets, given, given_of, goes, got, home_at, is_beside, loose, moved, news_after, next, next_home, no_words, of_eight, sent as sent_by, takes, takes_home};
+ghost use Rattle.chi_copies.specs.Moments.{has_moment, shown_after};
+ghost use Rattle.chi_copies.specs.Runs.{nothing_told};
+ghost use Rattle.chi_observer.specs.declared.flits.Flit.TheVariants.{Down, Up};
+ghost use Rattle.chi_copies.specs.Worlds.{all_below, home_may, is_placed, put};
+ghost use Rattle.chi_copies.specs.Sets.{members};
+ghost use Rattle.chi_copies.specs.Lines.{due_at, is_taken, is_taken_home, keeps_order, known_at, known_stored, may_at, observed, others_may, passes, sent_of, shown_at, snooped_at};
+
+use crate::acts::renews;
+use crate::copies::{Copies, NOBODY};
+use crate::rules::{
+    allows, are_hidden, due_after, due_granted, is_busy, is_due, is_request, lets_go, makes,
+    needs_alone, needs_duty, needs_moment, needs_overwriter, needs_quiet, overwrites, passes_duty,
+    snooped_after, snooped_granted, tells_words,
+};
+use crate::sends::{Sent, fits_by, fits_each, is_placed};
+use crate::steps::Step;
+use crate::tests::{Test, is_beside};
+use crate::timed::shown_behind;
+use chi_flit::Data;
+use chi_observer::{Act, CacheFlit, Due, Flit, Grant, HomeFlit, Snoop, Stores, Word};
+
+/// How many agents a line follows; their numbers are below it.
+/// Source: `docs/COPIES.md`, "What is kept".
+pub const AGENTS: usize = 32;
+
+/// What flits have told of one line.
+/// Source: `docs/COPIES.md`, "What is kept".
+#[derive(Clone, Debug, Drop, PartialEq, Eq)]
+pub struct Line {
+    /// Whether each store of a processor is told of.
+    pub stores: Stores,
+    /// What is due next of each agent's request.
+    pub due: [Due; 32],
+    /// The snoop that each agent hasn't answered.
+    pub snooped: [Option<Snoop>; 32],
+    /// Whether the home has dirty data that it must write or pass on.
+    pub duty: bool,
+    /// What each agent's copy may be.
+    pub may: [Copies; 32],
+    /// The words of the home's own copy, once a flit has shown them.
+    pub home: Option<Data>,
+    /// The words that are known of the value last stored, where the home hasn't it.
+    pub news: [Option<u64>; 8],
+    /// Of each agent whose CleanShared or ReadOnce is open: there was its moment since its issue. Of a CleanShared one at
+    /// which no other copy was dirty, of a ReadOnce one at which the home had the value last stored.
+    pub shown: [bool; 32],
+}
+
+/// Why a flit isn't taken.
+/// Source: `docs/COPIES.md`, "What is kept".
+#[derive(Clone, Copy, Debug, PartialEq, Eq)]
+pub enum Reason {
+    /// The agent's number is 32 or more.
+    NoAgent,
+    /// No copy that the agent may have sends this flit of a cache now.
+    NotSent,
+    /// What is due of the agent, or a snoop that it hasn't answered, doesn't let the home send it.
+    NotDue,
+    /// The home has no dirty data to pass on.
+    NoDuty,
+    /// A CompAck or write data are due at the line, and nothing is snooped meanwhile.
+    Busy,
+    /// No request of another agent is open for which copies may be thrown away.
+    NoOverwriter,
+    /// The words are known to be others.
+    OtherWords,
+    /// Since the agent's CleanShared was sent another copy may always have been dirty; or since its ReadOnce was sent the
+    /// home may never have had the value last stored.
+    NoMoment,
+    /// The value last stored may have been thrown away.
+    Lost,
+    /// Another agent's copy may be one that doesn't go with the one that this makes.
+    OtherCopy,
+}
+
+/// The known words with this one.
+fn with_word(known: [Option<u64>; 8], word: Word) -> [Option<u64>; 8]
+    requires { word.place.0 < 8 }
+    ensures { known_at result ≡ put word.place.0 (Some word.value) (known_at known) }
+{
+    let at = usize::from(word.place.0);
+    let mut next = known;
+    next[at] = Some(word.value);
+    next
+}
+
+/// The words of the home, where they are known.
+fn home_words(home: &Option<Data>) -> [Option<u64>; 8]
+    ensures { known_at result ≡ of_eight (home_at home.now) }
+{
+    match home {
+        None => [None; 8],
+        Some(words) => [
+            Some(words[0]),
+            Some(words[1]),
+            Some(words[2]),
+            Some(words[3]),
+            Some(words[4]),
+            Some(words[5]),
+            Some(words[6]),
+            Some(words[7]),
+        ],
+    }
+}
+
+/// No words are known.
+fn none_known() -> [Option<u64>; 8]
+    ensures { known_at result ≡ no_words }
+{
+    [None; 8]
+}
+
+/// Whether the home has the duty to write dirty data behind a flit of a cache.
+fn duty_after(duty: bool, act: Act) -> bool
+    ensures { result ≡ (duty || passes_duty act) }
+{
+    duty || passes_duty(act)
+}
+
+/// What an agent's copy may be.
+pub(crate) fn may_at(may: &[Copies; 32], agent: usize) -> Copies
+    requires { agent < 32 }
+    ensures { result ≡ may_at may.now agent }
+{
+    may[agent]
+}
+
+/// What each copy may be where the home has its words.
+fn each_shown(may: &[Copies; 32]) -> [Copies; 32]
+    ensures { (n : ℕ) (h : HeldOf) → members (may_at result n) h ≡ others_may true may.now n h }
+{
+    let mut shown = [NOBODY; 32];
+    for n in 0..32 {
+        shown[n] = Step::Shown.image(may_at(may, n));
+    }
+    shown
+}
+
+/// What each copy may be behind a flit; `tells` says that the home has its words.
+fn others_may(tells: bool, may: &[Copies; 32]) -> [Copies; 32]
+    ensures { (n : ℕ) (h : HeldOf) → members (may_at result n) h ≡ others_may tells may.now n h }
+{
+    if tells { each_shown(may) } else { *may }
+}
+
+/// The home's words behind a flit; `tells` says that they are its own.
+fn home_then(tells: bool, words: Data, home: Option<Data>) -> Option<Data>
+    ensures { result ≡ (if tells then Some words else home) }
+{
+    if tells { Some(words) } else { home }
+}
+
+/// The words that are known behind a flit of the home; `makes` says that it lets its agent write the whole line.
+fn news_granted(makes: bool, news: [Option<u64>; 8]) -> [Option<u64>; 8]
+    ensures { known_at result ≡ (if makes then no_words else known_at news) }
+{
+    if makes { none_known() } else { news }
+}
+
+/// Whether the home has the duty to write dirty data behind a flit of its own.
+fn duty_granted(duty: bool, grant: Grant) -> bool
+    ensures { result ≡ (duty && not (needs_duty grant)) }
+{
+    duty && !needs_duty(grant)
+}
+
+/// Whether no agent has a CompAck or write data due.
+fn is_quiet(due: &[Due; 32]) -> bool
+    ensures { result ≡ all_below 32 (λ m. not (is_busy (due_at due.now m))) }
+{
+    let mut quiet = true;
+    for n in 0..32 {
+        quiet = !is_busy(due[n]) && quiet;
+    }
+    quiet
+}
+
+/// Whether no other agent has a request open for which copies may be thrown away.
+fn is_none_overwriting(due: &[Due; 32], agent: u8) -> bool
+    ensures { result ≡ all_below 32 (λ m. m == agent || not (overwrites (due_at due.now m))) }
+{
+    let mut none = true;
+    for n in 0..32u8 {
+        none = (n == agent || !overwrites(due[usize::from(n)])) && none;
+    }
+    none
+}
+
+/// Whether the copies of an agent go with each that another may have; `alone` says that there is to be none.
+fn stands_beside(may: &[Copies; 32], agent: u8, got: Copies, alone: bool) -> bool
+    ensures { result ≡ all_below 32 (λ m. m == agent || is_beside (members got) alone (members (may_at may.now m))) }
+{
+    let mut beside = true;
+    for n in 0..32 {
+        let other = may_at(may, n);
+        beside &= goes_beside(n, agent, got, alone, other);
+    }
+    beside
+}
+
+/// Whether the copies of an agent go with each that agent `n` may have; the agent's own don't count.
+fn goes_beside(n: usize, agent: u8, got: Copies, alone: bool, other: Copies) -> bool
+    ensures { result ≡ (n == agent || is_beside (members got) alone (members other)) }
+{
+    n == usize::from(agent) || is_beside(got, alone, other)
+}
+
+impl Line {
+    /// A line that no cache has a copy of, with no request open, and whose memory has any words.
+    /// Source: `docs/COPIES.md`, "What is kept".
+    pub fn new(stores: Stores) -> Line
+        ensures told { observed result ≡ nothing_told stores }
+        ensures shown { (n : ℕ) → shown_at result.shown n ≡ false }
+    {
+        Line {
+            stores,
+            due: [Due::Nothing; 32],
+            snooped: [None; 32],
+            duty: false,
+            may: [NOBODY; 32],
+            home: None,
+            news: [None; 8],
+            shown: [false; 32],
+        }
+    }
+
+    /// Takes a flit of a cache: `Ok` exactly where some world that the line stands for sends it. Else nothing changes.
+    /// Source: `docs/COPIES.md`, "The relation".
+    pub fn take(&mut self, flit: CacheFlit) -> Result<(), Reason>
+        ensures taken { is_ok result ≡ is_taken (observed self.old) flit }
+        ensures after { OnOk result (observed self.new ≡ next (observed self.old) flit) }
+        ensures moments { OnOk result ((n : ℕ) → shown_at self.new.shown n
+            ≡ shown_after (observed self.old) (Up flit) (shown_at self.old.shown) n) }
+        ensures kept { OnErr result (self.new ≡ self.old) }
+    {
+        if flit.agent.0 >= 32 {
+            return Err(Reason::NoAgent);
+        }
+        match self.left_by(flit) {
+            None => Err(Reason::NotSent),
+            Some(left) => {
+                self.move_to(flit, left);
+                self.shown = shown_behind(&self.due, &self.may, &self.shown, Flit::Up(flit));
+                self.loosen(flit.agent.0);
+                Ok(())
+            }
+        }
+    }
+
+    /// Takes a flit of the home: `Ok` exactly where it is safe in each world that the line stands for. Else nothing changes.
+    /// Source: `docs/COPIES.md`, "The relation".
+    pub fn take_home(&mut self, flit: HomeFlit) -> Result<(), Reason>
+        ensures taken { is_ok result ≡ is_taken_home (observed self.old) (shown_at self.old.shown) flit }
+        ensures after { OnOk result (observed self.new ≡ next_home (observed self.old) flit) }
+        ensures moments { OnOk result ((n : ℕ) → shown_at self.new.shown n
+            ≡ shown_after (observed self.old) (Down flit) (shown_at self.old.shown) n) }
+        ensures kept { OnErr result (self.new ≡ self.old) }
+    {
+        if flit.agent.0 >= 32 {
+            return Err(Reason::NoAgent);
+        }
+        match self.is_timely(flit) {
+            Err(reason) => Err(reason),
+            Ok(()) => {
+                self.give(flit);
+                self.shown = shown_behind(&self.due, &self.may, &self.shown, Flit::Down(flit));
+                self.loosen(flit.agent.0);
+                Ok(())
+            }
+        }
+    }
+
+    /// What is due next of an agent's request.
+    fn due_of(&self, agent: u8) -> Due
+        requires { agent < 32 }
+        ensures { result ≡ due_at self.now.due agent }
+    {
+        self.due[usize::from(agent)]
+    }
+
+    /// The snoop that an agent hasn't answered.
+    fn snooped_of(&self, agent: u8) -> Option<Snoop>
+        requires { agent < 32 }
+        ensures { result ≡ snooped_at self.now.snooped agent }
+    {
+        self.snooped[usize::from(agent)]
+    }
+
+    /// What an agent's copy may be.
+    fn may_of(&self, agent: u8) -> Copies
+        requires { agent < 32 }
+        ensures { result ≡ may_at self.now.may agent }
+    {
+        may_at(&self.may, usize::from(agent))
+    }
+
+    /// The copies that a flit of a cache leaves, where it is taken.
+    fn left_by(&self, flit: CacheFlit) -> Option<Copies>
+        requires { flit.agent.0 < 32 }
+        ensures taken { is_some result ≡ takes (observed self.now) flit }
+        ensures placed { IfSome result (λ left. is_placed flit.act ≡ true) }
+        ensures left { IfSome result (λ left. (h : HeldOf) → members left h ≡ sent_by (observed self.now) flit h) }
+    {
+        let snooped = self.snooped_of(flit.agent.0);
+        if !allows(flit.act, snooped) {
+            return None;
+        }
+        if !is_placed(flit.act) {
+            return None;
+        }
+        let may = self.may_of(flit.agent.0);
+        let sent = self.sent(flit);
+        let left = Step::Sending(sent).image(may);
+        if Test::Each.any(left) {
+            Some(left)
+        } else {
+            None
+        }
+    }
+
+    /// The flit beside what is kept of the line.
+    fn sent(&self, flit: CacheFlit) -> Sent
+        requires low { flit.agent.0 < 32 }
+        requires placed { is_placed flit.act ≡ true }
+        ensures { result ≡ sent_of (observed self.now) flit }
+    {
+        let snooped = self.snooped_of(flit.agent.0);
+        let goes = lets_go(snooped);
+        let due = self.due_of(flit.agent.0);
+        let words = home_words(&self.home);
+        let home = fits_by(flit, &words);
+        let news = fits_by(flit, &self.news);
+        Sent {
+            stores: self.stores,
+            act: flit.act,
+            goes,
+            due,
+            home,
+            news,
+        }
+    }
+
+    /// What is kept behind a flit of a cache that leaves these copies, before hidden steps.
+    fn move_to(&mut self, flit: CacheFlit, left: Copies)
+        requires low { flit.agent.0 < 32 }
+        requires placed { is_placed flit.act ≡ true }
+        requires left { (h : HeldOf) → members left h ≡ sent_by (observed self.old) flit h }
+        ensures after { observed self.new ≡ moved (observed self.old) flit }
+        ensures shown { self.new.shown ≡ self.old.shown }
+    {
+        let at = usize::from(flit.agent.0);
+        let tells = tells_words(flit.act);
+        self.news = self.news_after(flit, left);
+        self.home = home_then(tells, flit.shown, self.home);
+        self.may = others_may(tells, &self.may);
+        self.may[at] = left;
+        self.due[at] = due_after(flit.act, self.due[at]);
+        self.snooped[at] = snooped_after(flit.act, self.snooped[at]);
+        self.duty = duty_after(self.duty, flit.act);
+    }
+
+    /// What is kept behind hidden steps of an agent.
+    fn loosen(&mut self, agent: u8)
+        requires { agent < 32 }
+        ensures after { observed self.new ≡ loose agent (observed self.old) }
+        ensures shown { self.new.shown ≡ self.old.shown }
+    {
+        let due = self.due_of(agent);
+        let may = self.may_of(agent);
+        self.may[usize::from(agent)] = Step::Hidden(self.stores, due).image(may);
+    }
+
+    /// The words that are known behind a flit of a cache that leaves these copies.
+    fn news_after(&self, flit: CacheFlit, left: Copies) -> [Option<u64>; 8]
+        requires low { flit.agent.0 < 32 }
+        requires placed { is_placed flit.act ≡ true }
+        requires left { (h : HeldOf) → members left h ≡ sent_by (observed self.now) flit h }
+        ensures { known_at result ≡ news_after (observed self.now) flit }
+    {
+        match flit.act {
+            Act::Load(word) => with_word(self.news, word),
+            Act::Store(word) => {
+                let known = self.known_stored(flit.agent.0);
+                with_word(known, word)
+            }
+            Act::Request(_)
+            | Act::Resend(_)
+            | Act::SnpResp(_)
+            | Act::CompAck
+            | Act::CopyBackWrData(_)
+            | Act::NonCopyBackWrData => self.news_but(flit, left),
+        }
+    }
+
+    /// The words that are known of the value behind a flit that is neither a load nor a store.
+    fn news_but(&self, flit: CacheFlit, left: Copies) -> [Option<u64>; 8]
+        requires left { (h : HeldOf) → members left h ≡ sent_by (observed self.now) flit h }
+        ensures { known_at result ≡ (if forgets (observed self.now) flit || tells_words flit.act then no_words else known_at self.now.news) }
+    {
+        if self.forgets(flit, left) {
+            none_known()
+        } else if tells_words(flit.act) {
+            none_known()
+        } else {
+            self.news
+        }
+    }
+
+    /// Whether a request says that there may have been a store which nobody told of.
+    fn forgets(&self, flit: CacheFlit, left: Copies) -> bool
+        requires left { (h : HeldOf) → members left h ≡ sent_by (observed self.now) flit h }
+        ensures { result ≡ forgets (observed self.now) flit }
+    {
+        are_hidden(self.stores) && (is_request(flit.act) && Test::Newer.any(left))
+    }
+
+    /// The words that are known of each copy of the agent that a store may be to.
+    fn known_stored(&self, agent: u8) -> [Option<u64>; 8]
+        requires { agent < 32 }
+        ensures { known_at result ≡ known_stored (observed self.now) agent }
+    {
+        let may = self.may_of(agent);
+        let due = self.due_of(agent);
+        let empty = Test::StorableEmpty(due).any(may);
+        let newer = Test::StorableNewer(due).any(may);
+        if empty {
+            none_known()
+        } else if newer {
+            self.news
+        } else {
+            home_words(&self.home)
+        }
+    }
+
+    /// Whether the home may send the flit by what flits say of requests, answers and its duty.
+    fn may_give(&self, flit: HomeFlit) -> Result<(), Reason>
+        requires { flit.agent.0 < 32 }
+        ensures { is_ok result ≡ home_may (observed self.now).public flit }
+    {
+        let due = self.due_of(flit.agent.0);
+        let snooped = self.snooped_of(flit.agent.0);
+        if !is_due(flit.grant, due, snooped) {
+            return Err(Reason::NotDue);
+        }
+        if needs_duty(flit.grant) && !self.duty {
+            return Err(Reason::NoDuty);
+        }
+        if needs_quiet(flit.grant) && !is_quiet(&self.due) {
+            return Err(Reason::Busy);
+        }
+        if needs_overwriter(flit.grant) && is_none_overwriting(&self.due, flit.agent.0) {
+            return Err(Reason::NoOverwriter);
+        }
+        Ok(())
+    }
+
+    /// Whether there was the moment that the flit needs.
+    fn has_moment(&self, flit: HomeFlit) -> bool
+        requires { flit.agent.0 < 32 }
+        ensures { result ≡ has_moment (observed self.now) (shown_at self.now.shown) flit }
+    {
+        let due = self.due_of(flit.agent.0);
+        let shown = self.shown[usize::from(flit.agent.0)];
+        !needs_moment(flit.grant, due) || shown
+    }
+
+    /// Whether there was its moment, the flit is due, and leaves all in order.
+    fn is_timely(&self, flit: HomeFlit) -> Result<(), Reason>
+        requires { flit.agent.0 < 32 }
+        ensures { is_ok result ≡ (has_moment (observed self.now) (shown_at self.now.shown) flit
+            && takes_home (observed self.now) flit) }
+    {
+        if self.has_moment(flit) {
+            self.is_safe(flit)
+        } else {
+            Err(Reason::NoMoment)
+        }
+    }
+
+    /// Whether the flit is due, and leaves all in order.
+    fn is_safe(&self, flit: HomeFlit) -> Result<(), Reason>
+        requires { flit.agent.0 < 32 }
+        ensures { is_ok result ≡ takes_home (observed self.now) flit }
+    {
+        match self.may_give(flit) {
+            Err(reason) => Err(reason),
+            Ok(()) => self.keeps_order(flit),
+        }
+    }
+
+    /// Whether the flit leaves all in order, where the home may send it.
+    fn keeps_order(&self, flit: HomeFlit) -> Result<(), Reason>
+        requires { flit.agent.0 < 32 }
+        ensures { is_ok result ≡ keeps_order (observed self.now) flit }
+    {
+        if !self.fits_shown(flit) {
+            return Err(Reason::OtherWords);
+        }
+        if self.fills_stored(flit) {
+            return Err(Reason::Lost);
+        }
+        if !self.goes(flit) {
+            return Err(Reason::OtherCopy);
+        }
+        Ok(())
+    }
+
+    /// Whether the words of a flit of the home are the home's own.
+    fn is_shown(&self, flit: HomeFlit) -> bool
+        requires { flit.agent.0 < 32 }
+        ensures { result ≡ any_of ((observed self.now).may flit.agent.0) (shows flit.grant) }
+    {
+        let may = self.may_of(flit.agent.0);
+        Test::Shows(flit.grant).any(may)
+    }
+
+    /// Whether the words may be the home's, if they are its own.
+    fn fits_shown(&self, flit: HomeFlit) -> bool
+        requires { flit.agent.0 < 32 }
+        ensures { result ≡ (not (any_of ((observed self.now).may flit.agent.0) (shows flit.grant))
+            || fits_home self.now.home flit.shown) }
+    {
+        let shows = self.is_shown(flit);
+        !shows || self.fits_home(flit)
+    }
+
+    /// Whether the words may be the home's.
+    fn fits_home(&self, flit: HomeFlit) -> bool
+        ensures { result ≡ fits_home self.now.home flit.shown }
+    {
+        let words = home_words(&self.home);
+        fits_each(&words, &flit.shown)
+    }
+
+    /// Whether the flit fills a copy whose agent may have thrown the value away.
+    fn fills_stored(&self, flit: HomeFlit) -> bool
+        requires { flit.agent.0 < 32 }
+        ensures { result ≡ any_of ((observed self.now).may flit.agent.0) (passes (FillsStored flit.grant)) }
+    {
+        let may = self.may_of(flit.agent.0);
+        Test::FillsStored(flit.grant).any(may)
+    }
+
+    /// The copies of the flit's agent then.
+    fn got(&self, flit: HomeFlit) -> Copies
+        requires { flit.agent.0 < 32 }
+        ensures { (h : HeldOf) → members result h ≡ got (observed self.now) flit h }
+    {
+        let due = self.due_of(flit.agent.0);
+        let may = self.may_of(flit.agent.0);
+        Step::Granted(flit.grant, due).image(may)
+    }
+
+    /// What the others' copies may be then.
+    fn given_may(&self, flit: HomeFlit) -> [Copies; 32]
+        requires { flit.agent.0 < 32 }
+        ensures { (n : ℕ) (h : HeldOf) → members (may_at result n) h
+            ≡ given_of flit (observed self.now).public (members (may_at self.now.may n)) h }
+    {
+        let due = self.due_of(flit.agent.0);
+        let renews = renews(flit.grant, due);
+        others_may(renews, &self.may)
+    }
+
+    /// Whether each copy that another agent may have goes with those of the flit's then.
+    fn goes(&self, flit: HomeFlit) -> bool
+        requires { flit.agent.0 < 32 }
+        ensures { result ≡ goes (observed self.now) flit }
+    {
+        let due = self.due_of(flit.agent.0);
+        let alone = needs_alone(flit.grant, due);
+        let got = self.got(flit);
+        let may = self.given_may(flit);
+        stands_beside(&may, flit.agent.0, got, alone)
+    }
+
+    /// What is kept behind a flit of the home, before hidden steps.
+    fn give(&mut self, flit: HomeFlit)
+        requires { flit.agent.0 < 32 }
+        ensures after { observed self.new ≡ given (observed self.old) flit }
+        ensures shown { self.new.shown ≡ self.old.shown }
+    {
+        let at = usize::from(flit.agent.0);
+        let due = self.due_of(flit.agent.0);
+        let snooped = self.snooped_of(flit.agent.0);
+        let shows = self.is_shown(flit);
+        let got = self.got(flit);
+        let may = self.given_may(flit);
+        let makes = makes(flit.grant, due);
+        self.news = news_granted(makes, self.news);
+        self.home = home_then(shows, flit.shown, self.home);
+        self.may = may;
+        self.may[at] = got;
+        self.due[at] = due_granted(flit.grant, due);
+        self.snooped[at] = snooped_granted(flit.grant, snooped);
+        self.duty = duty_granted(self.duty, flit.grant);
+    }
+}

@@ -1,0 +1,93 @@
+//! Moments at which no other copy was dirty, or the home had the value last stored.
+
+ghost use Rattle.std.specs.Prelude.{◌≡◌, ◌<◌, ◌&&◌, ◌||◌, ◌==◌, ℕ, not};
+ghost use Rattle.chi_copies.specs.Moments.{is_issue};
+ghost use Rattle.chi_copies.specs.Lines.{clean_beside, moment_here, none_dirty_of, none_stored_of, shown_at, shown_here};
+ghost use Rattle.chi_copies.specs.Sets.{members};
+
+use crate::copies::Copies;
+use crate::line::may_at;
+use crate::rules::{awaits_moment, is_request, reads_once};
+use crate::tests::Test;
+use chi_observer::{Due, Flit};
+
+/// Whether the flit is the agent's request.
+fn is_issue(flit: Flit, agent: usize) -> bool
+    ensures { result ≡ is_issue flit agent }
+{
+    match flit {
+        Flit::Up(sent) => is_request(sent.act) && agent == usize::from(sent.agent.0),
+        Flit::Down(_) => false,
+    }
+}
+
+/// Whether the home's own copy is surely the value last stored.
+fn is_none_stored(may: &[Copies; 32]) -> bool
+    ensures { result ≡ none_stored_of may.now }
+{
+    let mut none = true;
+    for n in 0..32 {
+        let copies = may_at(may, n);
+        let stored = Test::Stored.any(copies);
+        none &= !stored;
+    }
+    none
+}
+
+/// Whether the copies of one agent aren't dirty, but for the other's, and the value isn't lost with them.
+fn is_clean_beside(copies: Copies, n: usize, agent: usize) -> bool
+    ensures { result ≡ clean_beside (members copies) n agent }
+{
+    let dirty = Test::Dirty.any(copies);
+    let lost = Test::Lost.any(copies);
+    (n == agent || !dirty) && !lost
+}
+
+/// Whether no other copy can be dirty, and the value isn't lost.
+fn is_none_dirty(may: &[Copies; 32], agent: usize) -> bool
+    ensures { result ≡ none_dirty_of may.now agent }
+{
+    let mut clean = true;
+    for n in 0..32 {
+        let copies = may_at(may, n);
+        clean &= is_clean_beside(copies, n, agent);
+    }
+    clean
+}
+
+/// Whether it is the moment that the agent's request needs.
+fn is_moment(due: &[Due; 32], may: &[Copies; 32], agent: usize) -> bool
+    requires { agent < 32 }
+    ensures { result ≡ moment_here due.now may.now agent }
+{
+    if reads_once(due[agent]) {
+        is_none_stored(may)
+    } else {
+        is_none_dirty(may, agent)
+    }
+}
+
+/// Whether there was the moment that the agent's request needs since its issue, behind the flit.
+fn is_shown(due: &[Due; 32], may: &[Copies; 32], agent: usize, flit: Flit, was: bool) -> bool
+    requires { agent < 32 }
+    ensures { result ≡ shown_here due.now may.now flit was agent }
+{
+    awaits_moment(due[agent]) && ((!is_issue(flit, agent) && was) || is_moment(due, may, agent))
+}
+
+/// Whether there was the moment that each agent's request needs, behind the flit: what is due, and the copies, are as the flit
+/// leaves them, before hidden steps.
+pub(crate) fn shown_behind(
+    due: &[Due; 32],
+    may: &[Copies; 32],
+    shown: &[bool; 32],
+    flit: Flit,
+) -> [bool; 32]
+    ensures { (n : ℕ) → shown_at result n ≡ shown_here due.now may.now flit (shown_at shown.now n) n }
+{
+    let mut behind = [false; 32];
+    for n in 0..32 {
+        behind[n] = is_shown(due, may, n, flit, shown[n]);
+    }
+    behind
+}
