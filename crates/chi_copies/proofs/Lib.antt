@@ -23,3 +23,4 @@ mod Moments
 mod Runs
 mod Followed
 mod Values
+mod Larger

@@ -9,3 +9,4 @@ pub mod Told
 pub mod Runs
 pub mod Laws
 pub mod Values
+pub mod Above

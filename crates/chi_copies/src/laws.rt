@@ -4,6 +4,7 @@ ghost use Rattle.chi_copies.specs.Laws.{MeaningIsCoherent, MeaningIsClosed, Mean
 ghost use Rattle.chi_copies.specs.Told.{NewIsTold, TakenIsTold, TakenIsAccepted, AcceptedIsTaken};
 ghost use Rattle.chi_copies.specs.Runs.{LegalIsAccepted, AcceptedIsLegal, AcceptedIsExact, AcceptedIsCoherent};
 ghost use Rattle.chi_copies.specs.Values.{ReadOnceShowsValue};
+ghost use Rattle.chi_copies.specs.Above.{AboveTakes, StaysAbove, AboveMeansMore, SoundIsAbove, NothingIsAboveAll};
 
 /// The law that each world that the sets stand for is coherent, that hidden steps lead to just those that they stand for, and that
 /// each copy of a set is in some world.
@@ -47,6 +48,17 @@ pub fn traces()
     ensures exact { AcceptedIsExact }
     ensures coherent { AcceptedIsCoherent }
     ensures values { ReadOnceShowsValue }
+{}
+
+/// The law that sets that think more copies possible, and know less of the words, take each flit of a cache that others take, and go
+/// on to think so; so do sets that know nothing.
+/// Source: `docs/COPIES.md`, "What is proved".
+pub fn above()
+    ensures takes { AboveTakes }
+    ensures stays { StaysAbove }
+    ensures means { AboveMeansMore }
+    ensures sound { SoundIsAbove }
+    ensures nothing { NothingIsAboveAll }
 {}
 
 /// The law of a line's calls: a new `Line` is told nothing, one that takes a flit is told it, and it takes a flit exactly where the

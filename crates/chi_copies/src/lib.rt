@@ -17,5 +17,5 @@ mod timed;
 
 pub use copies::{Copies, NOBODY};
 pub use held::{CacheCopy, Held};
-pub use laws::{cache_flits, calls, home_flits, meaning, traces};
+pub use laws::{above, cache_flits, calls, home_flits, meaning, traces};
 pub use line::{AGENTS, Line, Reason};
