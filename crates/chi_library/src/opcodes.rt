@@ -74,7 +74,7 @@ pub(crate) const COPY_BACK_WR_DATA: u8 = 33;
 
 pub(crate) const NON_COPY_BACK_WR_DATA: u8 = 34;
 
-// Those of a processor.
+// Loads and stores of a processor.
 pub(crate) const LOAD: u8 = 35;
 
 pub(crate) const STORE: u8 = 36;
