@@ -17,15 +17,8 @@ use Rattle.chi_copies.proofs.Finite.{no, left, right, both, implies, follow, or_
 use Rattle.chi_copies.proofs.Rows.{is_sane, same_held_is, same_held_self, same_is}
 use Rattle.chi_copies.proofs.Means.{same_by, same_sym, same_trans, sane, beside_back, beside_goes, none_stored, beside_shown, coherent, slip_free}
 use Rattle.chi_copies.proofs.Put.{differ, unlike, here, there, split, everywhere, pairwise}
+use Rattle.chi_copies.proofs.Sets.{each_below}
 use Rattle.chi_copies.proofs.Grants.{makes_newer, settles_none, fills_data, gives_read, kept_data, stays_sane, fresh_from, keeps_stored, still_reading, still_waits, store_before, stays_even}
-
-each_step : (k : ℕ) (f : ℕ → Bool) (m : ℕ) (b : Bool) → (m == k) ≡ b → f k ≡ true → (m < k → f m ≡ true) → m < suc k → f m ≡ true
-each_step k f m true e here rest l = subst (λ x. f x ≡ true) (sym (eqb-true m k e)) here
-each_step k f m false e here rest l = let d : m ≢ k = differ m k e in rest (search (rules, arith))
-
-pub each_below : (k : ℕ) (f : ℕ → Bool) → all_below k f ≡ true → (m : ℕ) → m < k → f m ≡ true
-each_below zero f h m l = absurd (search (rules, arith))
-each_below (suc k) f h m l = each_step k f m (m == k) refl (left (f k) (all_below k f) h) (each_below k f (right (f k) (all_below k f) h) m) l
 
 pub below_all : (k : ℕ) (f : ℕ → Bool) → ((m : ℕ) → m < k → f m ≡ true) → all_below k f ≡ true
 below_all zero f h = refl

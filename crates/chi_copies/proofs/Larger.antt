@@ -25,7 +25,7 @@ use Rattle.chi_copies.proofs.Loose.Slipped.{Still, Freed, Store as StoreSlip, Dr
 use Rattle.chi_copies.proofs.Loosened.{one}
 use Rattle.chi_copies.proofs.Eight.{eight_is}
 use Rattle.chi_copies.proofs.Leads.{low_place, all_by, none_some_nat, may_store_alike, hide_alike, hides_none, listed_or, and_none, resent_waits, ack_is, contrary}
-use Rattle.chi_copies.proofs.Given.{each_below}
+use Rattle.chi_copies.proofs.Sets.{each_below}
 use Rattle.chi_copies.proofs.Put.{everywhere}
 
 -- WORDS OF WHICH LESS IS KNOWN

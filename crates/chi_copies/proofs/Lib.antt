@@ -2,6 +2,7 @@ mod Finite
 mod Put
 mod Eight
 mod Sets
+mod Bits
 mod Lines
 mod Rows
 mod Means
@@ -24,3 +25,4 @@ mod Runs
 mod Followed
 mod Values
 mod Larger
+mod Refusals

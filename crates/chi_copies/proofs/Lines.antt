@@ -33,7 +33,7 @@ use Rattle.chi_copies.specs.Sets.{members, place_of, held_at}
 use Rattle.chi_copies.specs.Lines.{fits_by, fits_any, known_at, sends_by, sent_of, nobody, may_at, due_at, snooped_at, observed, known_stored, others_may, passes, keeps_order, is_taken_home, shown_at, shown_here, none_stored_of, none_dirty_of}
 use Rattle.chi_copies.proofs.Finite.{no, each_held, in_held, in_image, out_image}
 use Rattle.chi_copies.proofs.Put.{here, there, split}
-use Rattle.chi_copies.proofs.Sets.{alike_is, same_bool, places, back}
+use Rattle.chi_copies.proofs.Sets.{alike_is, same_bool, places, back, same_is, same_itself, stay_is}
 use Rattle.chi_copies.specs.Copies.{alike, plain}
 use Rattle.chi_observer.specs.Copies.Copy.{Invalid}
 use Rattle.chi_copies.proofs.Eight.{eight_is}
@@ -149,9 +149,6 @@ pub image_same : (o : Observed) (f : CacheFlit) (S : Copies) (k : Held) → imag
 image_same o f S k = ap any_held (fun_ext (λ h. ap (λ (b : Bool). S h && b) (sends_same o f h k)))
 
 -- A STORE
-same_itself : (h : Held) → same_held h h ≡ true
-same_itself h = each_held (λ h. same_held h h) refl h
-
 true_so : (b : Bool) → b ≡ true → ((b || false) && true) ≡ true
 true_so true h = refl
 true_so false h = no h
@@ -257,14 +254,6 @@ loosened s agent n d m left e low hd hm hl =
     refl refl
 
 -- A FLIT OF THE HOME
-same_is : (h k : Held) → same_held h k ≡ true → h ≡ k
-same_is h k e = sym (back h) ∙ ap held_at (eqb-true (place_of h) (place_of k) (places h k ∙ e)) ∙ back k
-
-stay_is : (S : Copies) (k : Held) → image (λ h k. same_held h k) S k ≡ S k
-stay_is S k = same_bool (image (λ h k. same_held h k) S k) (S k)
-    (λ e. let x = out_image (λ h k. same_held h k) S k e in subst (λ h. S h ≡ true) (same_is x.held k x.leads) x.has)
-    (λ e. in_image (λ h k. same_held h k) S k k e (same_itself k))
-
 given_others : (b : Bool) (may : List CopiesCode) (n : ℕ) (k : Held) → others_may b may n k ≡ image (λ h k. same_held (if b then shown_of h else h) k) (members (may_at may n)) k
 given_others true may n k = refl
 given_others false may n k = sym (stay_is (members (may_at may n)) k)
@@ -404,10 +393,10 @@ kept_by true true d hb hc hd = no (sym hc)
 kept_by true false d hb hc hd = sym hd
 kept_by false c d hb hc hd = no hb
 
-low_is : (n : ℕ) → n < 32 → nat_lt n 32 ≡ true
+pub low_is : (n : ℕ) → n < 32 → nat_lt n 32 ≡ true
 low_is n l = search (rules, arith)
 
-high_is : (n : ℕ) → 32 ≤ n → nat_lt n 32 ≡ false
+pub high_is : (n : ℕ) → 32 ≤ n → nat_lt n 32 ≡ false
 high_is n l = search (rules, arith)
 
 within_by : (a b x : Bool) → a ≡ true → x ≡ b → x ≡ (a && b)

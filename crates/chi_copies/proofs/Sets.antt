@@ -6,10 +6,10 @@ use Rattle.std.proofs.lemmas.Bool.{eqb-true}
 use Rattle.std.proofs.lemmas.Nat.Bits.{bit_at_set_same, bit_at_set_other}
 use Rattle.chi_observer.specs.Copies.{Copy}
 use Rattle.chi_observer.specs.Copies.Copy.{Invalid, SharedClean, UniqueClean, UniqueEmpty, UniqueDirty, SharedDirty, Writing}
-use Rattle.chi_copies.specs.Copies.{Held, Copies, alike, same_held, any_held}
+use Rattle.chi_copies.specs.Copies.{Held, Copies, alike, same_held, any_held, image}
 use Rattle.chi_copies.specs.Sets.{place_of, place_of_copy, held_at, any_below}
 use Rattle.chi_copies.specs.Worlds.{all_below}
-use Rattle.chi_copies.proofs.Finite.{no, or_left, or_right, either, each_held, all_helds, in_held, out_held}
+use Rattle.chi_copies.proofs.Finite.{no, left, right, or_left, or_right, either, each_held, all_helds, in_held, out_held, in_image, out_image}
 use Rattle.chi_copies.proofs.Put.{differ}
 
 pub alike_is : (a b : Bool) → alike a b ≡ true → a ≡ b
@@ -135,3 +135,23 @@ both_swap false false = refl
 
 pub next_all : (k : ℕ) (f : ℕ → Bool) (a b : Bool) → a ≡ all_below k f → b ≡ f k → (a && b) ≡ all_below (k + 1) f
 next_all k f a b h e = (λ i. h i && e i) ∙ both_swap (all_below k f) (f k) ∙ ap (λ (n : ℕ). all_below n f) (suc_is k)
+
+each_step : (k : ℕ) (f : ℕ → Bool) (m : ℕ) (b : Bool) → (m == k) ≡ b → f k ≡ true → (m < k → f m ≡ true) → m < suc k → f m ≡ true
+each_step k f m true e here rest l = subst (λ x. f x ≡ true) (sym (eqb-true m k e)) here
+each_step k f m false e here rest l = let d : m ≢ k = differ m k e in rest (search (rules, arith))
+
+pub each_below : (k : ℕ) (f : ℕ → Bool) → all_below k f ≡ true → (m : ℕ) → m < k → f m ≡ true
+each_below zero f h m l = absurd (search (rules, arith))
+each_below (suc k) f h m l = each_step k f m (m == k) refl (left (f k) (all_below k f) h) (each_below k f (right (f k) (all_below k f) h) m) l
+
+-- two copies that are one
+pub same_itself : (h : Held) → same_held h h ≡ true
+same_itself h = each_held (λ h. same_held h h) refl h
+
+pub same_is : (h k : Held) → same_held h k ≡ true → h ≡ k
+same_is h k e = sym (back h) ∙ ap held_at (eqb-true (place_of h) (place_of k) (places h k ∙ e)) ∙ back k
+
+pub stay_is : (S : Copies) (k : Held) → image (λ h k. same_held h k) S k ≡ S k
+stay_is S k = same_bool (image (λ h k. same_held h k) S k) (S k)
+    (λ e. let x = out_image (λ h k. same_held h k) S k e in subst (λ h. S h ≡ true) (same_is x.held k x.leads) x.has)
+    (λ e. in_image (λ h k. same_held h k) S k k e (same_itself k))

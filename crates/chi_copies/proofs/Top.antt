@@ -13,7 +13,8 @@ use Rattle.chi_copies.specs.Laws.{EachIsInSome}
 use Rattle.chi_copies.proofs.Finite.{no, left, both, by_truth, turned, flip, by_false, in_held, out_held}
 use Rattle.chi_copies.proofs.Means.{same_refl}
 use Rattle.chi_copies.proofs.Put.{here, there, split}
-use Rattle.chi_copies.proofs.Given.{each_below, below_all}
+use Rattle.chi_copies.proofs.Given.{below_all}
+use Rattle.chi_copies.proofs.Sets.{each_below}
 
 -- some copy, of the set if it has one
 pub pick : (S : Copies) → (h : Held) × (any_held S ≡ true → S h ≡ true)

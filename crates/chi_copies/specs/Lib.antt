@@ -10,3 +10,4 @@ pub mod Runs
 pub mod Laws
 pub mod Values
 pub mod Above
+pub mod Refusals

@@ -20,7 +20,7 @@ use Rattle.chi_copies.specs.declared.steps.Step.TheVariants as steps
 use Rattle.chi_copies.specs.declared.line.Line.{Line}
 use Rattle.chi_copies.specs.declared.tests.Test.{Test}
 use Rattle.chi_copies.specs.declared.tests.Test.TheVariants as tests
-use Rattle.chi_copies.specs.Copies.{Held, Copies, shown_of, is_fresh, is_newer, beside, leaves, same_held}
+use Rattle.chi_copies.specs.Copies.{Held, Copies, shown_of, is_fresh, is_newer, beside, image, leaves, same_held}
 use Rattle.chi_copies.specs.Rules.{may_store, may_hide, acts, slips, granted, fills, shows}
 use Rattle.chi_copies.specs.Observed.{Observed, any_of, fits_each, fits_home, goes, home_at, may_own, of_eight, shown_all, takes, takes_home}
 use Rattle.chi_copies.specs.Worlds.{all_below}
@@ -54,6 +54,7 @@ leads_by (steps.Sending s) h k = sends_by s h k
 leads_by (steps.Hidden z d) h k = slips z d h k
 leads_by (steps.Granted g d) h k = same_held (granted g d h) k
 leads_by steps.Shown h k = same_held (shown_of h) k
+leads_by steps.Apart h k = not (beside h k)
 
 -- TESTS of one copy
 abbrev pub passes : Test → Held → Bool
@@ -68,6 +69,10 @@ passes tests.Newer h = is_newer h
 passes (tests.StorableEmpty d) h = may_store d h && (is_unique h.copy && not (holds_data h.copy))
 passes (tests.StorableNewer d) h = may_store d h && (is_unique h.copy && is_newer h)
 passes (tests.Apart k) h = not (beside (held_is k) h)
+
+-- what another agent may not have beside a set's copies, or not at all
+abbrev pub apart_by : Copies → Bool → Copies
+apart_by S alone k = image (leads_by steps.Apart) S k || (alone && not (same k.copy Invalid))
 
 -- A LINE
 abbrev pub nobody : CopiesCode

@@ -1,7 +1,8 @@
 //! Sets of copies.
 
-ghost use Rattle.std.specs.Prelude.{◌≡◌, ◌<◌, ◌||◌, false};
+ghost use Rattle.std.specs.Prelude.{◌≡◌, ◌<◌, ◌&&◌, ◌||◌, false, not, true};
 ghost use Rattle.chi_copies.specs.Copies.{Held as HeldOf, same_held};
+ghost use Rattle.chi_copies.specs.Observed.{any_of};
 ghost use Rattle.chi_copies.specs.Sets.{copy_at, copy_is, held_at, held_is, members, place_of, place_of_copy};
 
 use crate::held::{CacheCopy, Held};
@@ -17,6 +18,9 @@ pub struct Copies {
 /// The set of no copy alone: of an agent of whom nothing was told.
 /// Source: `docs/COPIES.md`, "What is kept".
 pub const NOBODY: Copies = Copies { bits: 1 };
+
+/// The bits of all copies.
+pub(crate) const EVERY: u32 = 0x0fff_ffff;
 
 /// The bit of a copy by what its cache has.
 fn place_of_copy(copy: CacheCopy) -> u32
@@ -92,6 +96,63 @@ impl Copies {
     {
         Copies {
             bits: self.bits | 1 << place_of(held),
+        }
+    }
+
+    /// The set with the copies of another.
+    pub(crate) fn or(self, other: Copies) -> Copies
+        ensures { (h : HeldOf) → members result h ≡ (members self h || members other h) }
+    {
+        Copies {
+            bits: self.bits | other.bits,
+        }
+    }
+
+    /// The copies that are in another too.
+    pub(crate) fn and(self, other: Copies) -> Copies
+        ensures { (h : HeldOf) → members result h ≡ (members self h && members other h) }
+    {
+        Copies {
+            bits: self.bits & other.bits,
+        }
+    }
+
+    /// The set without any bit that is none of a copy.
+    pub(crate) fn known(self) -> Copies
+        ensures low { result.bits < 268435456 }
+        ensures same { (h : HeldOf) → members result h ≡ members self h }
+    {
+        Copies {
+            bits: self.bits & EVERY,
+        }
+    }
+
+    /// Whether some copy is in both.
+    pub(crate) fn meets(self, other: Copies) -> bool
+        ensures { result ≡ any_of (members self) (members other) }
+    {
+        self.and(other).known().bits != 0
+    }
+
+    /// The bit of the first copy, of a set that has one.
+    pub(crate) fn first(self) -> u32
+        requires low { self.bits < 268435456 }
+        requires some { 0 < self.bits }
+        ensures low { result < 28 }
+        ensures first { members self (held_at result) ≡ true }
+    {
+        self.bits.trailing_zeros()
+    }
+
+    /// The set without the copy of a bit.
+    pub(crate) fn without(self, place: u32) -> Copies
+        requires place { place < 28 }
+        requires first { members self (held_at place) ≡ true }
+        ensures fewer { result.bits < self.bits }
+        ensures others { (h : HeldOf) → members result h ≡ (members self h && not (same_held (held_at place) h)) }
+    {
+        Copies {
+            bits: self.bits & !(1 << place),
         }
     }
 }

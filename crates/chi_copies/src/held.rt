@@ -121,7 +121,7 @@ impl Held {
     }
 
     /// Whether the value is lost with it.
-    fn is_lost(self) -> bool
+    pub(crate) fn is_lost(self) -> bool
         ensures { result ≡ is_lost (held_is self) }
     {
         self.stored && !self.copy.holds_data()

@@ -1,6 +1,6 @@
 //! A line.
 
-ghost use Rattle.std.specs.Prelude.{◌≡◌, ◌<◌, ◌&&◌, ◌||◌, ◌==◌, ℕ, IfSome, OnErr, OnOk, Some, false, is_ok, is_some, if◌then◌else◌, not, true};
+ghost use Rattle.std.specs.Prelude.{◌≡◌, ◌<◌, ◌&&◌, ◌||◌, ◌==◌, ℕ, IfErr, IfSome, OnErr, OnOk, Option, Some, false, is_ok, is_some, if◌then◌else◌, not, true};
 ghost use Rattle.chi_observer.specs.Rules.{is_busy, needs_duty, overwrites, passes_duty, tells_words};
 ghost use Rattle.chi_copies.specs.Rules.{shows};
 ghost use Rattle.chi_copies.specs.declared.tests.Test.TheVariants.{FillsStored};
@@ -11,6 +11,9 @@ ghost use Rattle.chi_copies.specs.Runs.{nothing_told};
 ghost use Rattle.chi_observer.specs.declared.flits.Flit.TheVariants.{Down, Up};
 ghost use Rattle.chi_copies.specs.Worlds.{all_below, home_may, is_placed, put};
 ghost use Rattle.chi_copies.specs.Sets.{members};
+ghost use Rattle.chi_copies.specs.declared.line.Reason.{Reason};
+ghost use Rattle.chi_copies.specs.declared.line.Reason.TheVariants.{NoMoment};
+ghost use Rattle.chi_copies.specs.Refusals.{copy_refusal, due_refusal, home_refusal, refusal, refused_if};
 ghost use Rattle.chi_copies.specs.Lines.{due_at, is_taken, is_taken_home, keeps_order, known_at, known_stored, may_at, observed, others_may, passes, sent_of, shown_at, snooped_at};
 
 use crate::acts::renews;
@@ -22,7 +25,7 @@ use crate::rules::{
 };
 use crate::sends::{Sent, fits_by, fits_each, is_placed};
 use crate::steps::Step;
-use crate::tests::{Test, is_beside};
+use crate::tests::{Test, apart_by};
 use crate::timed::shown_behind;
 use chi_flit::Data;
 use chi_observer::{Act, CacheFlit, Due, Flit, Grant, HomeFlit, Snoop, Stores, Word};
@@ -139,7 +142,7 @@ fn each_shown(may: &[Copies; 32]) -> [Copies; 32]
 {
     let mut shown = [NOBODY; 32];
     for n in 0..32 {
-        shown[n] = Step::Shown.image(may_at(may, n));
+        shown[n] = may_at(may, n).shown();
     }
     shown
 }
@@ -198,19 +201,20 @@ fn is_none_overwriting(due: &[Due; 32], agent: u8) -> bool
 fn stands_beside(may: &[Copies; 32], agent: u8, got: Copies, alone: bool) -> bool
     ensures { result ≡ all_below 32 (λ m. m == agent || is_beside (members got) alone (members (may_at may.now m))) }
 {
+    let apart = apart_by(got, alone);
     let mut beside = true;
     for n in 0..32 {
         let other = may_at(may, n);
-        beside &= goes_beside(n, agent, got, alone, other);
+        beside &= goes_beside(n, agent, apart, other);
     }
     beside
 }
 
-/// Whether the copies of an agent go with each that agent `n` may have; the agent's own don't count.
-fn goes_beside(n: usize, agent: u8, got: Copies, alone: bool, other: Copies) -> bool
-    ensures { result ≡ (n == agent || is_beside (members got) alone (members other)) }
+/// Whether none of these copies is one that agent `n` may have; the agent's own don't count.
+fn goes_beside(n: usize, agent: u8, apart: Copies, other: Copies) -> bool
+    ensures { result ≡ (n == agent || not (any_of (members other) (members apart))) }
 {
-    n == usize::from(agent) || is_beside(got, alone, other)
+    n == usize::from(agent) || !other.meets(apart)
 }
 
 impl Line {
@@ -239,6 +243,7 @@ impl Line {
         ensures after { OnOk result (observed self.new ≡ next (observed self.old) flit) }
         ensures moments { OnOk result ((n : ℕ) → shown_at self.new.shown n
             ≡ shown_after (observed self.old) (Up flit) (shown_at self.old.shown) n) }
+        ensures why { IfErr result (λ reason. refusal (observed self.old) flit ≡ Some reason) }
         ensures kept { OnErr result (self.new ≡ self.old) }
     {
         if flit.agent.0 >= 32 {
@@ -262,6 +267,7 @@ impl Line {
         ensures after { OnOk result (observed self.new ≡ next_home (observed self.old) flit) }
         ensures moments { OnOk result ((n : ℕ) → shown_at self.new.shown n
             ≡ shown_after (observed self.old) (Down flit) (shown_at self.old.shown) n) }
+        ensures why { IfErr result (λ reason. home_refusal (observed self.old) (shown_at self.old.shown) flit ≡ Some reason) }
         ensures kept { OnErr result (self.new ≡ self.old) }
     {
         if flit.agent.0 >= 32 {
@@ -375,7 +381,7 @@ impl Line {
     {
         let due = self.due_of(agent);
         let may = self.may_of(agent);
-        self.may[usize::from(agent)] = Step::Hidden(self.stores, due).image(may);
+        self.may[usize::from(agent)] = may.hidden(self.stores, due);
     }
 
     /// The words that are known behind a flit of a cache that leaves these copies.
@@ -443,7 +449,8 @@ impl Line {
     /// Whether the home may send the flit by what flits say of requests, answers and its duty.
     fn may_give(&self, flit: HomeFlit) -> Result<(), Reason>
         requires { flit.agent.0 < 32 }
-        ensures { is_ok result ≡ home_may (observed self.now).public flit }
+        ensures may { is_ok result ≡ home_may (observed self.now).public flit }
+        ensures why { IfErr result (λ reason. (rest : Option Reason) → due_refusal (observed self.now) flit rest ≡ Some reason) }
     {
         let due = self.due_of(flit.agent.0);
         let snooped = self.snooped_of(flit.agent.0);
@@ -475,8 +482,10 @@ impl Line {
     /// Whether there was its moment, the flit is due, and leaves all in order.
     fn is_timely(&self, flit: HomeFlit) -> Result<(), Reason>
         requires { flit.agent.0 < 32 }
-        ensures { is_ok result ≡ (has_moment (observed self.now) (shown_at self.now.shown) flit
+        ensures takes { is_ok result ≡ (has_moment (observed self.now) (shown_at self.now.shown) flit
             && takes_home (observed self.now) flit) }
+        ensures why { IfErr result (λ reason. refused_if (not (has_moment (observed self.now) (shown_at self.now.shown) flit)) NoMoment
+            (due_refusal (observed self.now) flit (copy_refusal (observed self.now) flit)) ≡ Some reason) }
     {
         if self.has_moment(flit) {
             self.is_safe(flit)
@@ -488,7 +497,8 @@ impl Line {
     /// Whether the flit is due, and leaves all in order.
     fn is_safe(&self, flit: HomeFlit) -> Result<(), Reason>
         requires { flit.agent.0 < 32 }
-        ensures { is_ok result ≡ takes_home (observed self.now) flit }
+        ensures takes { is_ok result ≡ takes_home (observed self.now) flit }
+        ensures why { IfErr result (λ reason. due_refusal (observed self.now) flit (copy_refusal (observed self.now) flit) ≡ Some reason) }
     {
         match self.may_give(flit) {
             Err(reason) => Err(reason),
@@ -499,7 +509,8 @@ impl Line {
     /// Whether the flit leaves all in order, where the home may send it.
     fn keeps_order(&self, flit: HomeFlit) -> Result<(), Reason>
         requires { flit.agent.0 < 32 }
-        ensures { is_ok result ≡ keeps_order (observed self.now) flit }
+        ensures keeps { is_ok result ≡ keeps_order (observed self.now) flit }
+        ensures why { IfErr result (λ reason. copy_refusal (observed self.now) flit ≡ Some reason) }
     {
         if !self.fits_shown(flit) {
             return Err(Reason::OtherWords);

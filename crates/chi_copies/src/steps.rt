@@ -1,16 +1,18 @@
 //! What the copies of a set lead to.
 
-ghost use Rattle.std.specs.Prelude.{◌≡◌, ◌&&◌, ◌||◌};
+ghost use Rattle.std.specs.Prelude.{◌≡◌, ◌||◌};
 ghost use Rattle.chi_copies.specs.Copies.{Held as HeldOf, image};
 ghost use Rattle.chi_copies.specs.Rules.{slips};
-ghost use Rattle.chi_copies.specs.Sets.{held_at, held_is, members};
+ghost use Rattle.chi_copies.specs.Sets.{held_is, members};
 ghost use Rattle.chi_copies.specs.Lines.{leads_by};
+ghost use Rattle.chi_copies.specs.Observed.{shown_all};
 
 use crate::acts::{dropped, freed, granted, may_be_free, stored_to};
 use crate::copies::{Copies, held_at};
 use crate::held::Held;
 use crate::rules::are_hidden;
 use crate::sends::{Sent, with_left};
+use crate::tests::Test;
 use chi_observer::{Due, Grant, Stores};
 
 /// A step of one copy.
@@ -25,6 +27,8 @@ pub enum Step {
     Granted(Grant, Due),
     /// The home has its words.
     Shown,
+    /// To each copy that no other agent may have beside it.
+    Apart,
 }
 
 /// The set with what unseen steps lead to from the copy.
@@ -52,19 +56,7 @@ impl Step {
             Step::Hidden(stores, due) => with_hidden(stores, due, held, left),
             Step::Granted(grant, due) => left.with(granted(grant, due, held)),
             Step::Shown => left.with(held.shown()),
-        }
-    }
-
-    /// The set with what the copy of a bit leads to, if it is in the other.
-    fn leads_from(self, set: Copies, place: u32, left: Copies) -> Copies
-        ensures { (h : HeldOf) → members result h
-            ≡ (members left h || (members set (held_at place) && leads_by self (held_at place) h)) }
-    {
-        let held = held_at(place);
-        if set.contains(held) {
-            self.leads(held, left)
-        } else {
-            left
+            Step::Apart => left.or(Test::Apart(held).copies()),
         }
     }
 
@@ -72,10 +64,36 @@ impl Step {
     pub(crate) fn image(self, set: Copies) -> Copies
         ensures { (h : HeldOf) → members result h ≡ image (leads_by self) (members set) h }
     {
-        let mut left = Copies::empty();
-        for place in 0..28 {
-            left = self.leads_from(set, place, left);
+        let (mut left, mut rest) = (Copies::empty(), set.known());
+        while rest.bits != 0 {
+            let place = rest.first();
+            left = self.leads(held_at(place), left);
+            rest = rest.without(place);
         }
         left
+    }
+}
+
+impl Copies {
+    /// The copies where the home has their words.
+    pub(crate) fn shown(self) -> Copies
+        ensures { (h : HeldOf) → members result h ≡ shown_all (members self) h }
+    {
+        if Test::Stored.any(self) {
+            Step::Shown.image(self)
+        } else {
+            self
+        }
+    }
+
+    /// The copies behind hidden steps of an agent of which this is due.
+    pub(crate) fn hidden(self, stores: Stores, due: Due) -> Copies
+        ensures { (h : HeldOf) → members result h ≡ image (slips stores due) (members self) h }
+    {
+        if may_be_free(due) {
+            Step::Hidden(stores, due).image(self)
+        } else {
+            self
+        }
     }
 }

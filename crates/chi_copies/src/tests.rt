@@ -1,15 +1,67 @@
-//! Whether a set has a copy that is so.
+//! What copies may be, as sets.
 
-ghost use Rattle.std.specs.Prelude.{◌≡◌, ◌&&◌, not};
-ghost use Rattle.chi_copies.specs.Copies.{all_beside, beside};
-ghost use Rattle.chi_copies.specs.Observed.{any_of, is_beside};
-ghost use Rattle.chi_copies.specs.Sets.{held_at, held_is, members};
-ghost use Rattle.chi_copies.specs.Lines.{passes};
+ghost use Rattle.std.specs.Prelude.{◌≡◌, ◌&&◌, ◌||◌, not};
+ghost use Rattle.chi_observer.specs.Copies.{compatible};
+ghost use Rattle.chi_copies.specs.Copies.{Held as HeldOf, is_fresh, is_lost};
+ghost use Rattle.chi_copies.specs.Observed.{any_of};
+ghost use Rattle.chi_copies.specs.Rules.{may_store};
+ghost use Rattle.chi_copies.specs.Sets.{copy_is, held_is, members};
+ghost use Rattle.chi_copies.specs.declared.tests.Test.TheVariants.{Shows};
+ghost use Rattle.chi_copies.specs.Lines.{apart_by, passes};
 
-use crate::acts::{fills, may_store, shows};
-use crate::copies::{Copies, held_at};
+use crate::copies::{Copies, EVERY};
 use crate::held::{CacheCopy, Held};
+use crate::rules::{gives_copy, gives_data};
+use crate::steps::Step;
 use chi_observer::{Due, Grant};
+
+// A bit is that of what the cache has (copies.rt), of a copy that is neither cancelled nor stored to; 7 more if its
+// request is cancelled, and 14 more if it was stored to.
+
+/// No copy.
+const NONE: Copies = Copies { bits: 0 };
+
+/// Each copy.
+const EACH: Copies = Copies { bits: EVERY };
+
+/// A cache has some.
+const LEFT: Copies = Copies { bits: 0x0fdf_bf7e };
+
+/// Dirty.
+const DIRTY: Copies = Copies { bits: 0x060c_1830 };
+
+/// Not dirty.
+const CLEAN: Copies = Copies { bits: 0x09f3_e7cf };
+
+/// Stored to since the home has had its words.
+const STORED: Copies = Copies { bits: 0x0fff_c000 };
+
+/// Stored to, and not dirty.
+const LOST: Copies = Copies { bits: 0x09f3_c000 };
+
+/// With the value, which the home hasn't.
+const NEWER: Copies = Copies { bits: 0x06cd_8000 };
+
+/// With the value, which the home has too.
+const FRESH: Copies = Copies { bits: 0x0000_1b36 };
+
+/// Without data, of a cache that has thrown the value away.
+const THROWN: Copies = Copies { bits: 0x0932_4000 };
+
+/// Unique, without data.
+const UNIQUE_EMPTY: Copies = Copies { bits: 0x0102_0408 };
+
+/// Unique, with the value, which the home hasn't.
+const UNIQUE_NEWER: Copies = Copies { bits: 0x0285_0000 };
+
+/// Of a cancelled request.
+const CANCELLED: Copies = Copies { bits: 0x0fe0_3f80 };
+
+/// None that another cache may have beside a shared clean one.
+const APART_FROM_CLEAN: Copies = Copies { bits: 0x0b97_2e5c };
+
+/// None that another cache may have beside a shared dirty one.
+const APART_FROM_DIRTY: Copies = Copies { bits: 0x0f9f_3e7c };
 
 /// What a copy may be.
 /// Source: `docs/COPIES.md`, "What a copy is".
@@ -39,73 +91,91 @@ pub enum Test {
     Apart(Held),
 }
 
+/// The copies that a store may be to while this is due.
+fn storable(due: Due) -> Copies
+    ensures { (h : HeldOf) → members result h ≡ may_store due h }
+{
+    match due {
+        Due::Nothing | Due::Acknowledgement => EACH,
+        Due::Resending(_) => CANCELLED,
+        Due::Completion(_) | Due::SureCompletion(_) | Due::WriteData(_) => NONE,
+    }
+}
+
+/// The copies to which the home's own words go by its flit.
+fn shown_to(grant: Grant) -> Copies
+    ensures { (h : HeldOf) → members result h ≡ passes (Shows grant) h }
+{
+    if !gives_data(grant) {
+        NONE
+    } else if gives_copy(grant) {
+        CLEAN
+    } else {
+        EACH
+    }
+}
+
+/// The copies that no other cache may have beside one.
+fn apart_from(copy: CacheCopy) -> Copies
+    ensures { (h : HeldOf) → members result h ≡ not (compatible (copy_is copy) h.copy) }
+{
+    match copy {
+        CacheCopy::Invalid => NONE,
+        CacheCopy::SharedClean => APART_FROM_CLEAN,
+        CacheCopy::SharedDirty => APART_FROM_DIRTY,
+        CacheCopy::UniqueClean
+        | CacheCopy::UniqueEmpty
+        | CacheCopy::UniqueDirty
+        | CacheCopy::Writing => LEFT,
+    }
+}
+
+/// The copies that have what the home has where this one has lost the value, or the other way round.
+fn lost_beside(held: Held) -> Copies
+    ensures { (h : HeldOf) → members result h
+        ≡ ((is_lost (held_is held) && is_fresh h) || (is_fresh (held_is held) && is_lost h)) }
+{
+    if held.is_lost() {
+        FRESH
+    } else if held.is_fresh() {
+        THROWN
+    } else {
+        NONE
+    }
+}
+
 impl Test {
-    /// Whether the copy is so.
-    fn passes(self, held: Held) -> bool
-        ensures { result ≡ passes self (held_is held) }
+    /// The copies that are so.
+    pub(crate) fn copies(self) -> Copies
+        ensures { (h : HeldOf) → members result h ≡ passes self h }
     {
         match self {
-            Test::Each => true,
-            Test::Shows(grant) => shows(grant, held),
-            Test::FillsStored(grant) => fills(grant, held) && held.stored,
-            Test::Left => !held.copy.is(CacheCopy::Invalid),
-            Test::Dirty => held.copy.is_dirty(),
-            Test::Stored => held.stored,
-            Test::Lost => held.stored && !held.copy.is_dirty(),
-            Test::Newer => held.is_newer(),
-            Test::StorableEmpty(due) => {
-                may_store(due, held) && (held.copy.is_unique() && !held.copy.holds_data())
-            }
-            Test::StorableNewer(due) => {
-                may_store(due, held) && (held.copy.is_unique() && held.is_newer())
-            }
-            Test::Apart(other) => !other.stands_beside(held),
+            Test::Each => EACH,
+            Test::Shows(grant) => shown_to(grant),
+            Test::FillsStored(grant) => if gives_copy(grant) { LOST } else { NONE },
+            Test::Left => LEFT,
+            Test::Dirty => DIRTY,
+            Test::Stored => STORED,
+            Test::Lost => LOST,
+            Test::Newer => NEWER,
+            Test::StorableEmpty(due) => storable(due).and(UNIQUE_EMPTY),
+            Test::StorableNewer(due) => storable(due).and(UNIQUE_NEWER),
+            Test::Apart(held) => apart_from(held.copy).or(lost_beside(held)),
         }
-    }
-
-    /// Whether the copy of a bit is in the set, and so.
-    fn passes_from(self, set: Copies, place: u32) -> bool
-        ensures { result ≡ (members set (held_at place) && passes self (held_at place)) }
-    {
-        let held = held_at(place);
-        set.contains(held) && self.passes(held)
     }
 
     /// Whether some copy of the set is so.
     pub(crate) fn any(self, set: Copies) -> bool
         ensures { result ≡ any_of (members set) (passes self) }
     {
-        let mut any = false;
-        for place in 0..28 {
-            any |= self.passes_from(set, place);
-        }
-        any
+        set.meets(self.copies())
     }
 }
 
-/// Whether the copy of a bit is in the set, and some copy of the other is none that another agent may have beside it.
-fn is_apart_from(set: Copies, other: Copies, place: u32) -> bool
-    ensures { result ≡ (members set (held_at place)
-        && any_of (members other) (λ k. not (beside (held_at place) k))) }
+/// The copies that another agent may not have beside those of a set; `alone` says that it is to have none.
+pub(crate) fn apart_by(set: Copies, alone: bool) -> Copies
+    ensures { (h : HeldOf) → members result h ≡ apart_by (members set) alone h }
 {
-    let held = held_at(place);
-    set.contains(held) && Test::Apart(held).any(other)
-}
-
-/// Whether each copy of the one set goes with each of the other.
-fn all_beside(set: Copies, other: Copies) -> bool
-    ensures { result ≡ all_beside (members set) (members other) }
-{
-    let mut apart = false;
-    for place in 0..28 {
-        apart |= is_apart_from(set, other, place);
-    }
-    !apart
-}
-
-/// Whether each copy of the one set goes with each of the other; `alone` says that the other is to have none.
-pub(crate) fn is_beside(set: Copies, alone: bool, other: Copies) -> bool
-    ensures { result ≡ is_beside (members set) alone (members other) }
-{
-    all_beside(set, other) && (!alone || !Test::Left.any(other))
+    let apart = Step::Apart.image(set);
+    if alone { apart.or(LEFT) } else { apart }
 }

@@ -4,6 +4,8 @@
 #[cfg(test)]
 mod kept;
 #[cfg(test)]
+mod random;
+#[cfg(test)]
 mod rows;
 #[cfg(test)]
 mod said;

@@ -17,13 +17,13 @@ pub loop-n-preserved : goal.loop-n-preserved
 loop-n-preserved c =
     let n = c.loop-n.n in
     let shown = c.loop-n.shown in
-    let x = c.image.result in
+    let x = c.shown.result in
     let some : n < 32 = search (rules, arith, c.loop-n-test) in
     let low : n < length shown = subst (λ (k : ℕ). n < k) (sym c.loop-n.invariant.0) some in
     let whole : length (slice_set shown n x) ≡ 32 = search (rules, arith, c.loop-n.invariant.0) in (
       whole,
       split (λ m. m < n + 1 → (h : Held) → members (may_at (slice_set shown n x) m) h ≡ shown_all (members (may_at c.args.may.now m)) h) n
-          (λ _ h. ap (λ s. members s h) (get_or-set_at shown n n x nobody refl low) ∙ c.image.ensures h ∙ ap (λ s. shown_all (members s) h) c.may_at.ensures)
+          (λ _ h. ap (λ s. members s h) (get_or-set_at shown n n x nobody refl low) ∙ c.shown.ensures h ∙ ap (λ s. shown_all (members s) h) c.may_at.ensures)
           (λ m apart below h. ap (λ s. members s h) (get_or-set_other shown n m x nobody apart) ∙ c.loop-n.invariant.1 m (lower m n below apart) h),
     )
 

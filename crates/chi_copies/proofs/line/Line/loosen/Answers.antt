@@ -8,4 +8,4 @@ returns-clause-after c =
     let s = c.args.self.now in let n = c.from.result in
     let low : n < 32 = search (rules, arith) in
     let copies : length s.may ≡ 32 = search (rules, arith) in
-    loosened s c.args.agent n c.due_of-due.result c.may_of-may.result c.image.result c.from.ensures (subst (λ (k : ℕ). n < k) (sym copies) low) c.due_of-due.ensures c.may_of-may.ensures c.image.ensures
+    loosened s c.args.agent n c.due_of-due.result c.may_of-may.result c.hidden.result c.from.ensures (subst (λ (k : ℕ). n < k) (sym copies) low) c.due_of-due.ensures c.may_of-may.ensures c.hidden.ensures

@@ -1,10 +1,13 @@
--- So far each bit is followed.
-use Rattle.std.proofs.Common.{◌≡◌}
-use Rattle.std.specs.Prelude.{◌&&◌}
-use Rattle.chi_copies.specs.Copies.{Held}
-use Rattle.chi_copies.specs.Sets.{any_below, held_at, members}
+-- What the copies so far lead to, and those that are left, is what all lead to.
+use Rattle.std.proofs.Common.{◌≡◌, ◌<◌}
+use Rattle.std.specs.Prelude.{◌||◌}
+use Rattle.chi_copies.specs.Copies.{Held, image}
+use Rattle.chi_copies.specs.Sets.{members}
 use Rattle.chi_copies.specs.Lines.{leads_by}
 use Rattle.chi_copies.proofs.steps.Step.image.Given as goal
 
-abbrev pub invariant-loop-place : goal.invariant-loop-place
-invariant-loop-place l = (h : Held) → members l.left h ≡ any_below l.place (λ p. members l.set (held_at p) && leads_by l.self (held_at p) h)
+abbrev pub invariant-loop-rest : goal.invariant-loop-rest
+invariant-loop-rest l = (l.rest.bits < 268435456) × ((h : Held) → (members l.left h || image (leads_by l.self) (members l.rest) h) ≡ image (leads_by l.self) (members l.fn.set) h)
+
+abbrev pub decreases-loop-rest : goal.decreases-loop-rest
+decreases-loop-rest l = l.rest.bits
