@@ -1,7 +1,6 @@
 -- A flit of the home before hidden steps: what is kept, where it leads, that it is safe.
 use Rattle.std.proofs.Common.{rules, arith, ◌≡◌, ◌≢◌, ℕ, ◌<◌, zero, suc, refl, sym, ap, subst, ◌∙◌}
 use Rattle.std.specs.Prelude.{Bool, true, false, ◌&&◌, ◌||◌, ◌==◌, not, Option, Some, None, List, if◌then◌else◌}
-use Rattle.std.proofs.lemmas.Bool.{eqb-true}
 use Rattle.chi_observer.specs.declared.kinds.Snoop.{Snoop}
 use Rattle.chi_observer.specs.declared.flits.Due.{Due}
 use Rattle.chi_observer.specs.declared.flits.HomeFlit.{HomeFlit}
@@ -16,7 +15,7 @@ use Rattle.chi_copies.specs.Laws.{HomeFlitsAreSafe, HomeFlitsLead}
 use Rattle.chi_copies.proofs.Finite.{no, left, right, both, implies, follow, or_right, either, by_truth, turned, flip, by_false, all_helds, each_held, in_held, out_held, in_image, From, out_image}
 use Rattle.chi_copies.proofs.Rows.{is_sane, same_held_is, same_held_self, same_is}
 use Rattle.chi_copies.proofs.Means.{same_by, same_sym, same_trans, sane, beside_back, beside_goes, none_stored, beside_shown, coherent, slip_free}
-use Rattle.chi_copies.proofs.Put.{differ, unlike, here, there, split, everywhere, pairwise}
+use Rattle.chi_copies.proofs.Put.{unlike, here, there, split, everywhere, pairwise}
 use Rattle.chi_copies.proofs.Sets.{each_below}
 use Rattle.chi_copies.proofs.Grants.{makes_newer, settles_none, fills_data, gives_read, kept_data, stays_sane, fresh_from, keeps_stored, still_reading, still_waits, store_before, stays_even}
 

@@ -3,6 +3,7 @@ mod Put
 mod Eight
 mod Sets
 mod Bits
+mod DueBytes
 mod Lines
 mod Rows
 mod Means

@@ -1,13 +1,13 @@
 -- A line of the code after a flit is what the observer keeps then.
 use Rattle.std.proofs.Common.{rules, arith, ◌≡◌, ◌⊎◌, inl, inr, ℕ, zero, suc, ◌<◌, ◌≤◌, List, [], ◌∷◌, length, refl, sym, subst, ap, ◌∙◌, slice_index_or, slice_set}
 use Rattle.std.proofs.Math.Path.{fun_ext}
-use Rattle.std.proofs.lemmas.Bool.{eqb-true}
 use Rattle.std.proofs.lemmas.List.{get_or-set_other, get_or_past}
 use Rattle.std.proofs.lemmas.Grind.{get_or-set_at}
 use Rattle.std.specs.Prelude.{replicate, nat_lt, Bool, true, false, ◌&&◌, ◌||◌, ◌==◌, not, Option, Some, None, if◌then◌else◌}
 use Rattle.chi_observer.specs.declared.kinds.Snoop.{Snoop}
 use Rattle.chi_observer.specs.declared.flits.Due.{Due}
-use Rattle.chi_observer.specs.declared.flits.Due.TheVariants.{Nothing}
+use Rattle.chi_copies.specs.declared.dues.DueCode.{DueCode}
+use Rattle.chi_copies.specs.Dues.{due_is}
 use Rattle.chi_observer.specs.declared.flits.Stores.{Stores}
 use Rattle.chi_observer.specs.declared.flits.Word.{Word}
 use Rattle.chi_observer.specs.declared.flits.Act.{Act}
@@ -29,11 +29,11 @@ use Rattle.chi_copies.specs.Rules.{may_store, slips, stored_to, granted, shows, 
 use Rattle.chi_copies.specs.Worlds.{put, is_placed, all_below, home_may}
 use Rattle.chi_copies.specs.Observed.{Observed, any_of, fits_at, differs_at, fits_each, home_at, may_own, of_eight, shown_all, sends, sent, stores_from, known_before, has_news, moved, loose, takes, news_after, no_words, got, given, given_of, goes, is_beside, fits_home, takes_home}
 use Rattle.chi_copies.specs.Runs.{nothing_told}
-use Rattle.chi_copies.specs.Sets.{members, place_of, held_at}
-use Rattle.chi_copies.specs.Lines.{fits_by, fits_any, known_at, sends_by, sent_of, nobody, may_at, due_at, snooped_at, observed, known_stored, others_may, passes, keeps_order, is_taken_home, shown_at, shown_here, none_stored_of, none_dirty_of}
-use Rattle.chi_copies.proofs.Finite.{no, each_held, in_held, in_image, out_image}
+use Rattle.chi_copies.specs.Sets.{members}
+use Rattle.chi_copies.specs.Lines.{fits_by, fits_any, known_at, sends_by, sent_of, nobody, nothing_due, may_at, due_at, snooped_at, observed, known_stored, others_may, passes, keeps_order, is_taken_home, shown_at, shown_here, none_stored_of, none_dirty_of}
+use Rattle.chi_copies.proofs.Finite.{no, turned, each_held, in_held}
 use Rattle.chi_copies.proofs.Put.{here, there, split}
-use Rattle.chi_copies.proofs.Sets.{alike_is, same_bool, places, back, same_is, same_itself, stay_is}
+use Rattle.chi_copies.proofs.Sets.{alike_is, each_below, same_itself, stay_is}
 use Rattle.chi_copies.specs.Copies.{alike, plain}
 use Rattle.chi_observer.specs.Copies.Copy.{Invalid}
 use Rattle.chi_copies.proofs.Eight.{eight_is}
@@ -201,28 +201,28 @@ made z e q d t v w = record { public = record { stores = z; due = e; snooped = q
 pub made_same : (z : Stores) (e e' : ℕ → Due) (q q' : ℕ → Option Snoop) (d d' : Bool) (t t' : ℕ → Copies) (v v' : Option (List ℕ)) (w w' : ℕ → Option ℕ) → e ≡ e' → q ≡ q' → d ≡ d' → t ≡ t' → v ≡ v' → w ≡ w' → made z e q d t v w ≡ made z e' q' d' t' v' w'
 made_same z e e' q q' d d' t t' v v' w w' he hq hd ht hv hw = λ i. made z (he i) (hq i) (hd i) (ht i) (hv i) (hw i)
 
-abbrev line_of : Stores → List Due → List (Option Snoop) → Bool → List CopiesCode → Option (List ℕ) → List (Option ℕ) → Line
+abbrev line_of : Stores → List DueCode → List (Option Snoop) → Bool → List CopiesCode → Option (List ℕ) → List (Option ℕ) → Line
 line_of z e q d t v w = record { stores = z; due = e; snooped = q; duty = d; may = t; home = v; news = w; shown = [] }
 
-module _ (z : Stores) (due : List Due) (snooped : List (Option Snoop)) (duty : Bool) (may : List CopiesCode) (home : Option (List ℕ)) (news : List (Option ℕ)) where
+module _ (z : Stores) (due : List DueCode) (snooped : List (Option Snoop)) (duty : Bool) (may : List CopiesCode) (home : Option (List ℕ)) (news : List (Option ℕ)) where
   abbrev old : Observed
   old = observed (line_of z due snooped duty may home news)
 
   -- before hidden steps
-  stepped : (n : ℕ) (d D : Due) (q Q : Option Snoop) (duty' Y : Bool) (left : CopiesCode) (S : Copies) (may' : List CopiesCode) (others : ℕ → Copies) (home' V : Option (List ℕ)) (news' : List (Option ℕ)) (W : ℕ → Option ℕ) → n < length due → n < length snooped → n < length may'
-      → d ≡ D → q ≡ Q → duty' ≡ Y → ((h : Held) → members left h ≡ S h) → ((k : ℕ) (h : Held) → members (may_at may' k) h ≡ others k h) → home' ≡ V → known_at news' ≡ W
+  stepped : (n : ℕ) (d : DueCode) (D : Due) (q Q : Option Snoop) (duty' Y : Bool) (left : CopiesCode) (S : Copies) (may' : List CopiesCode) (others : ℕ → Copies) (home' V : Option (List ℕ)) (news' : List (Option ℕ)) (W : ℕ → Option ℕ) → n < length due → n < length snooped → n < length may'
+      → due_is d ≡ D → q ≡ Q → duty' ≡ Y → ((h : Held) → members left h ≡ S h) → ((k : ℕ) (h : Held) → members (may_at may' k) h ≡ others k h) → home' ≡ V → known_at news' ≡ W
       → observed (line_of z (slice_set due n d) (slice_set snooped n q) duty' (slice_set may' n left) home' news') ≡ made z (put n D (λ (k : ℕ). due_at due k)) (put n Q (λ (k : ℕ). snooped_at snooped k)) Y (put n S others) V W
   stepped n d D q Q duty' Y left S may' others home' V news' W ld lq lm hd hq hy hl ho hv hn =
       made_same _ _ _ _ _ _ _ _ _ _ _ _ _
-      (set_is_put (λ (x : Due). x) due n d Nothing ld ∙ ap (λ x. put n x (λ (k : ℕ). due_at due k)) hd)
+      (set_is_put due_is due n d nothing_due ld ∙ ap (λ x. put n x (λ (k : ℕ). due_at due k)) hd)
       (set_is_put (λ (x : Option Snoop). x) snooped n q None lq ∙ ap (λ x. put n x (λ (k : ℕ). snooped_at snooped k)) hq)
       hy
       (set_is_put members may' n left nobody lm ∙ ap (λ x. put n x (λ (k : ℕ). members (may_at may' k))) (fun_ext hl) ∙ ap (put n S) (fun_ext (λ k. fun_ext (ho k))))
       hv
       hn
 
-  pub moved_by : (f : CacheFlit) (n : ℕ) (d : Due) (q : Option Snoop) (duty' tells : Bool) (left : CopiesCode) (may' : List CopiesCode) (home' : Option (List ℕ)) (news' : List (Option ℕ)) → n ≡ f.agent.0 → n < length due → n < length snooped → n < length may'
-      → d ≡ due_after f.act (due_at due n) → q ≡ snooped_after f.act (snooped_at snooped n) → duty' ≡ (duty || passes_duty f.act) → tells ≡ tells_words f.act
+  pub moved_by : (f : CacheFlit) (n : ℕ) (d : DueCode) (q : Option Snoop) (duty' tells : Bool) (left : CopiesCode) (may' : List CopiesCode) (home' : Option (List ℕ)) (news' : List (Option ℕ)) → n ≡ f.agent.0 → n < length due → n < length snooped → n < length may'
+      → due_is d ≡ due_after f.act (due_at due n) → q ≡ snooped_after f.act (snooped_at snooped n) → duty' ≡ (duty || passes_duty f.act) → tells ≡ tells_words f.act
       → ((k : ℕ) (h : Held) → members (may_at may' k) h ≡ others_may tells may k h) → ((h : Held) → members left h ≡ sent old f h)
       → home' ≡ (if tells then Some f.shown else home) → known_at news' ≡ news_after old f
       → observed (line_of z (slice_set due n d) (slice_set snooped n q) duty' (slice_set may' n left) home' news') ≡ moved old f
@@ -233,8 +233,8 @@ module _ (z : Stores) (due : List Due) (snooped : List (Option Snoop)) (duty : B
       (hd ∙ ap (λ (k : ℕ). due_after f.act (due_at due k)) e) (hq ∙ ap (λ (k : ℕ). snooped_after f.act (snooped_at snooped k)) e) hy hl
       (λ k h. ho k h ∙ ap (λ (b : Bool). others_may b may k h) ht) (hv ∙ ap (λ (b : Bool). if b then Some f.shown else home) ht) hn
 
-  pub given_by : (g : HomeFlit) (n : ℕ) (d was : Due) (q before : Option Snoop) (duty' shown makes' : Bool) (left : CopiesCode) (may' : List CopiesCode) (home' : Option (List ℕ)) (news' : List (Option ℕ)) → n ≡ g.agent.0 → n < length due → n < length snooped → n < length may'
-      → was ≡ due_at due g.agent.0 → before ≡ snooped_at snooped g.agent.0 → d ≡ due_granted g.grant was → q ≡ snooped_granted g.grant before → duty' ≡ (duty && not (needs_duty g.grant)) → shown ≡ any_of (old.may g.agent.0) (shows g.grant) → makes' ≡ makes g.grant was
+  pub given_by : (g : HomeFlit) (n : ℕ) (d : DueCode) (was : Due) (q before : Option Snoop) (duty' shown makes' : Bool) (left : CopiesCode) (may' : List CopiesCode) (home' : Option (List ℕ)) (news' : List (Option ℕ)) → n ≡ g.agent.0 → n < length due → n < length snooped → n < length may'
+      → was ≡ due_at due g.agent.0 → before ≡ snooped_at snooped g.agent.0 → due_is d ≡ due_granted g.grant was → q ≡ snooped_granted g.grant before → duty' ≡ (duty && not (needs_duty g.grant)) → shown ≡ any_of (old.may g.agent.0) (shows g.grant) → makes' ≡ makes g.grant was
       → ((k : ℕ) (h : Held) → members (may_at may' k) h ≡ given_of g old.public (members (may_at may k)) h) → ((h : Held) → members left h ≡ got old g h)
       → home' ≡ (if shown then Some g.shown else home) → known_at news' ≡ (if makes' then no_words else known_at news)
       → observed (line_of z (slice_set due n d) (slice_set snooped n q) duty' (slice_set may' n left) home' news') ≡ given old g
@@ -287,9 +287,9 @@ all_same {A} (suc k) (suc n) x = all_same k n x
 nobody_is : (h : Held) → members nobody h ≡ (same_held (plain Invalid) h)
 nobody_is h = alike_is _ _ (each_held (λ h. alike (members nobody h) (same_held (plain Invalid) h)) refl h)
 
-pub told_nothing : (z : Stores) → observed (line_of z (replicate 32 Nothing) (replicate 32 None) false (replicate 32 nobody) None (replicate 8 None)) ≡ nothing_told z
+pub told_nothing : (z : Stores) → observed (line_of z (replicate 32 nothing_due) (replicate 32 None) false (replicate 32 nobody) None (replicate 8 None)) ≡ nothing_told z
 told_nothing z = made_same _ _ _ _ _ _ _ _ _ _ _ _ _
-    (fun_ext (λ n. all_same 32 n Nothing))
+    (fun_ext (λ n. ap due_is (all_same 32 n nothing_due)))
     (fun_ext (λ n. all_same 32 n None))
     refl
     (fun_ext (λ n. fun_ext (λ h. ap (λ x. members x h) (all_same 32 n nobody) ∙ nobody_is h)))
@@ -449,13 +449,16 @@ pub shown_is : (mid : Line) (o : Observed) (e : Flit) (before shown : List Bool)
 shown_is mid o e before shown n h hs each = each ∙ ap (λ s. shown_here mid.due mid.may e (shown_at s n) n) hs
     ∙ ap (λ (x : Observed). awaits_moment (x.public.due n) && ((not (is_issue e n) && shown_at before n) || is_moment x n)) h
 
-timed_past : (due : List Due) (may : List CopiesCode) (before now : List Bool) (e : Flit) (n : ℕ) → length due ≡ 32 → length now ≡ 32 → 32 ≤ n → shown_at now n ≡ shown_here due may e (shown_at before n) n
+timed_past : (due : List DueCode) (may : List CopiesCode) (before now : List Bool) (e : Flit) (n : ℕ) → length due ≡ 32 → length now ≡ 32 → 32 ≤ n → shown_at now n ≡ shown_here due may e (shown_at before n) n
 timed_past due may before now e n ld lb h = get_or_past now n false (subst (λ (k : ℕ). k ≤ n) (sym lb) h)
-    ∙ sym (ap (λ d. awaits_moment d && ((not (is_issue e n) && shown_at before n) || (if reads_once d then none_stored_of may else none_dirty_of may n))) (get_or_past due n Nothing (subst (λ (k : ℕ). k ≤ n) (sym ld) h)))
+    ∙ sym (ap (λ d. awaits_moment d && ((not (is_issue e n) && shown_at before n) || (if reads_once d then none_stored_of may else none_dirty_of may n))) (ap due_is (get_or_past due n nothing_due (subst (λ (k : ℕ). k ≤ n) (sym ld) h))))
 
-timed_by : (due : List Due) (may : List CopiesCode) (before now : List Bool) (e : Flit) → length due ≡ 32 → length now ≡ 32 → ((n : ℕ) → n < 32 → shown_at now n ≡ shown_here due may e (shown_at before n) n) → (n : ℕ) → (n < 32) ⊎ (32 ≤ n) → shown_at now n ≡ shown_here due may e (shown_at before n) n
+timed_by : (due : List DueCode) (may : List CopiesCode) (before now : List Bool) (e : Flit) → length due ≡ 32 → length now ≡ 32 → ((n : ℕ) → n < 32 → shown_at now n ≡ shown_here due may e (shown_at before n) n) → (n : ℕ) → (n < 32) ⊎ (32 ≤ n) → shown_at now n ≡ shown_here due may e (shown_at before n) n
 timed_by due may before now e ld lb each n (inl h) = each n h
 timed_by due may before now e ld lb each n (inr h) = timed_past due may before now e n ld lb h
 
-pub timed_each : (due : List Due) (may : List CopiesCode) (before now : List Bool) (e : Flit) → length due ≡ 32 → length now ≡ 32 → ((n : ℕ) → n < 32 → shown_at now n ≡ shown_here due may e (shown_at before n) n) → (n : ℕ) → shown_at now n ≡ shown_here due may e (shown_at before n) n
+pub timed_each : (due : List DueCode) (may : List CopiesCode) (before now : List Bool) (e : Flit) → length due ≡ 32 → length now ≡ 32 → ((n : ℕ) → n < 32 → shown_at now n ≡ shown_here due may e (shown_at before n) n) → (n : ℕ) → shown_at now n ≡ shown_here due may e (shown_at before n) n
 timed_each due may before now e ld lb each n = timed_by due may before now e ld lb each n (past_by n (nat_lt n 32) refl)
+
+pub untimed : (due : List DueCode) (may : List CopiesCode) (before : List Bool) (e : Flit) → length due ≡ 32 → all_below 32 (λ m. not (awaits_moment (due_at due m))) ≡ true → (n : ℕ) → shown_at (replicate 32 false) n ≡ shown_here due may e (shown_at before n) n
+untimed due may before e ld none = timed_each due may before (replicate 32 false) e ld refl (λ n low. all_same 32 n false ∙ ap (λ a. a && ((not (is_issue e n) && shown_at before n) || (if reads_once (due_at due n) then none_stored_of may else none_dirty_of may n))) (sym (turned (awaits_moment (due_at due n)) (each_below 32 (λ m. not (awaits_moment (due_at due m))) none n low))))

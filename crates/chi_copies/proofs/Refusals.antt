@@ -1,10 +1,10 @@
 -- The first row that is so.
-use Rattle.std.proofs.Common.{◌≡◌, ℕ, refl, sym, ap, ◌∙◌}
+use Rattle.std.proofs.Common.{◌≡◌, refl, sym, ◌∙◌}
 use Rattle.std.specs.Prelude.{Bool, true, false, ◌&&◌, ◌||◌, not, Option, Some, None, Result, Ok, Err, IfErr}
 use Rattle.chi_observer.specs.declared.flits.HomeFlit.{HomeFlit}
 use Rattle.chi_observer.specs.Rules.{is_busy, is_due, needs_duty, needs_overwriter, needs_quiet}
 use Rattle.chi_copies.specs.declared.line.Reason.{Reason}
-use Rattle.chi_copies.specs.declared.line.Reason.TheVariants.{NotDue, NoDuty, Busy, NoOverwriter, OtherWords, NoMoment, Lost, OtherCopy}
+use Rattle.chi_copies.specs.declared.line.Reason.TheVariants.{NotDue, NoDuty, Busy, NoOverwriter, OtherWords, Lost, OtherCopy}
 use Rattle.chi_copies.specs.Rules.{fills, shows}
 use Rattle.chi_copies.specs.Worlds.{all_below, home_may, is_overwritten}
 use Rattle.chi_copies.specs.Observed.{Observed, any_of, fits_home, goes}

@@ -4,7 +4,6 @@ use Rattle.std.specs.List.{slice_index_or}
 use Rattle.chi_observer.specs.declared.flits.Act.{Act}
 use Rattle.chi_observer.specs.declared.flits.Act.TheVariants.{Load}
 use Rattle.chi_observer.specs.declared.flits.Due.{Due}
-use Rattle.chi_observer.specs.declared.flits.Due.TheVariants.{Nothing}
 use Rattle.chi_observer.specs.declared.flits.CacheFlit.{CacheFlit}
 use Rattle.chi_observer.specs.declared.flits.HomeFlit.{HomeFlit}
 use Rattle.chi_observer.specs.declared.flits.Flit.{Flit}
@@ -13,6 +12,7 @@ use Rattle.chi_observer.specs.Copies.{holds_data, is_dirty, is_unique, same}
 use Rattle.chi_observer.specs.Copies.Copy.{Invalid}
 use Rattle.chi_observer.specs.Rules.{has_data, word_at, lets_go, awaits_moment, reads_once}
 use Rattle.chi_copies.specs.declared.copies.Copies.{Copies as CopiesCode}
+use Rattle.chi_copies.specs.declared.dues.DueCode.{DueCode}
 use Rattle.chi_copies.specs.declared.sends.Fits.{Fits}
 use Rattle.chi_copies.specs.declared.sends.Sent.{Sent}
 use Rattle.chi_copies.specs.declared.steps.Step.{Step}
@@ -20,6 +20,7 @@ use Rattle.chi_copies.specs.declared.steps.Step.TheVariants as steps
 use Rattle.chi_copies.specs.declared.line.Line.{Line}
 use Rattle.chi_copies.specs.declared.tests.Test.{Test}
 use Rattle.chi_copies.specs.declared.tests.Test.TheVariants as tests
+use Rattle.chi_copies.specs.Dues.{due_is}
 use Rattle.chi_copies.specs.Copies.{Held, Copies, shown_of, is_fresh, is_newer, beside, image, leaves, same_held}
 use Rattle.chi_copies.specs.Rules.{may_store, may_hide, acts, slips, granted, fills, shows}
 use Rattle.chi_copies.specs.Observed.{Observed, any_of, fits_each, fits_home, goes, home_at, may_own, of_eight, shown_all, takes, takes_home}
@@ -81,8 +82,11 @@ nobody = record { bits = 1 }
 abbrev pub may_at : List CopiesCode → ℕ → CopiesCode
 may_at may n = slice_index_or may n nobody
 
-abbrev pub due_at : List Due → ℕ → Due
-due_at due n = slice_index_or due n Nothing
+abbrev pub nothing_due : DueCode
+nothing_due = record { 0 = 0 }
+
+abbrev pub due_at : List DueCode → ℕ → Due
+due_at due n = due_is (slice_index_or due n nothing_due)
 
 abbrev pub snooped_at : List (Option Snoop) → ℕ → Option Snoop
 snooped_at snooped n = slice_index_or snooped n None
@@ -129,9 +133,9 @@ clean_beside S m n = (m == n || not (any_of S (passes tests.Dirty))) && not (any
 abbrev pub none_dirty_of : List CopiesCode → ℕ → Bool
 none_dirty_of may n = all_below 32 (λ m. clean_beside (members (may_at may m)) m n)
 
-abbrev pub moment_here : List Due → List CopiesCode → ℕ → Bool
+abbrev pub moment_here : List DueCode → List CopiesCode → ℕ → Bool
 moment_here due may n = if reads_once (due_at due n) then none_stored_of may else none_dirty_of may n
 
 -- right behind a flit
-abbrev pub shown_here : List Due → List CopiesCode → Flit → Bool → ℕ → Bool
+abbrev pub shown_here : List DueCode → List CopiesCode → Flit → Bool → ℕ → Bool
 shown_here due may e was n = awaits_moment (due_at due n) && ((not (is_issue e n) && was) || moment_here due may n)

@@ -1,5 +1,5 @@
 -- Why a flit isn't taken: the first row that is so (docs/COPIES.md, "What is kept").
-use Rattle.std.specs.Prelude.{◌≡◌, ℕ, Bool, ◌&&◌, not, nat_lt, Option, Some, None, if◌then◌else◌}
+use Rattle.std.specs.Prelude.{ℕ, Bool, ◌&&◌, not, nat_lt, Option, Some, None, if◌then◌else◌}
 use Rattle.chi_observer.specs.declared.flits.CacheFlit.{CacheFlit}
 use Rattle.chi_observer.specs.declared.flits.HomeFlit.{HomeFlit}
 use Rattle.chi_observer.specs.Rules.{is_busy, is_due, needs_duty, needs_overwriter, needs_quiet}

@@ -6,6 +6,7 @@
 
 mod acts;
 mod copies;
+mod dues;
 mod held;
 mod laws;
 mod line;
@@ -16,6 +17,7 @@ mod tests;
 mod timed;
 
 pub use copies::{Copies, NOBODY};
+pub use dues::{DueCode, NOTHING_DUE};
 pub use held::{CacheCopy, Held};
 pub use laws::{above, cache_flits, calls, home_flits, meaning, traces};
 pub use line::{AGENTS, Line, Reason};

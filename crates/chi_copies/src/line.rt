@@ -5,7 +5,7 @@ ghost use Rattle.chi_observer.specs.Rules.{is_busy, needs_duty, overwrites, pass
 ghost use Rattle.chi_copies.specs.Rules.{shows};
 ghost use Rattle.chi_copies.specs.declared.tests.Test.TheVariants.{FillsStored};
 ghost use Rattle.chi_copies.specs.Copies.{Held as HeldOf};
-ghost use Rattle.chi_copies.specs.Observed.{any_of, fits_home, forgets, given, given_of, goes, got, home_at, is_beside, loose, moved, news_after, next, next_home, no_words, of_eight, sent as sent_by, takes, takes_home};
+ghost use Rattle.chi_copies.specs.Observed.{any_of, fits_home, forgets, given, given_of, goes, got as got_by, home_at, is_beside, loose, moved, news_after, next, next_home, no_words, of_eight, sent as sent_by, takes, takes_home};
 ghost use Rattle.chi_copies.specs.Moments.{has_moment, shown_after};
 ghost use Rattle.chi_copies.specs.Runs.{nothing_told};
 ghost use Rattle.chi_observer.specs.declared.flits.Flit.TheVariants.{Down, Up};
@@ -13,14 +13,16 @@ ghost use Rattle.chi_copies.specs.Worlds.{all_below, home_may, is_placed, put};
 ghost use Rattle.chi_copies.specs.Sets.{members};
 ghost use Rattle.chi_copies.specs.declared.line.Reason.{Reason};
 ghost use Rattle.chi_copies.specs.declared.line.Reason.TheVariants.{NoMoment};
+ghost use Rattle.chi_copies.specs.Dues.{due_is};
 ghost use Rattle.chi_copies.specs.Refusals.{copy_refusal, due_refusal, home_refusal, refusal, refused_if};
 ghost use Rattle.chi_copies.specs.Lines.{due_at, is_taken, is_taken_home, keeps_order, known_at, known_stored, may_at, observed, others_may, passes, sent_of, shown_at, snooped_at};
 
 use crate::acts::renews;
 use crate::copies::{Copies, NOBODY};
+use crate::dues::{DueCode, NOTHING_DUE};
 use crate::rules::{
-    allows, are_hidden, due_after, due_granted, is_busy, is_due, is_request, lets_go, makes,
-    needs_alone, needs_duty, needs_moment, needs_overwriter, needs_quiet, overwrites, passes_duty,
+    allows, are_hidden, due_after, due_granted, is_due, is_request, lets_go, makes, needs_alone,
+    needs_duty, needs_moment, needs_overwriter, needs_quiet, overwrites, passes_duty,
     snooped_after, snooped_granted, tells_words,
 };
 use crate::sends::{Sent, fits_by, fits_each, is_placed};
@@ -41,7 +43,7 @@ pub struct Line {
     /// Whether each store of a processor is told of.
     pub stores: Stores,
     /// What is due next of each agent's request.
-    pub due: [Due; 32],
+    pub due: [DueCode; 32],
     /// The snoop that each agent hasn't answered.
     pub snooped: [Option<Snoop>; 32],
     /// Whether the home has dirty data that it must write or pass on.
@@ -176,25 +178,32 @@ fn duty_granted(duty: bool, grant: Grant) -> bool
 }
 
 /// Whether no agent has a CompAck or write data due.
-fn is_quiet(due: &[Due; 32]) -> bool
+fn is_quiet(due: &[DueCode; 32]) -> bool
     ensures { result ≡ all_below 32 (λ m. not (is_busy (due_at due.now m))) }
 {
     let mut quiet = true;
     for n in 0..32 {
-        quiet = !is_busy(due[n]) && quiet;
+        quiet &= !due[n].is_busy();
     }
     quiet
 }
 
 /// Whether no other agent has a request open for which copies may be thrown away.
-fn is_none_overwriting(due: &[Due; 32], agent: u8) -> bool
+fn is_none_overwriting(due: &[DueCode; 32], agent: u8) -> bool
     ensures { result ≡ all_below 32 (λ m. m == agent || not (overwrites (due_at due.now m))) }
 {
     let mut none = true;
-    for n in 0..32u8 {
-        none = (n == agent || !overwrites(due[usize::from(n)])) && none;
+    for n in 0..32 {
+        none &= is_sparing(n, agent, due[n]);
     }
     none
+}
+
+/// Whether this isn't due of a request for which copies may be thrown away; the agent's own don't count.
+fn is_sparing(n: usize, agent: u8, due: DueCode) -> bool
+    ensures { result ≡ (n == agent || not (overwrites (due_is due))) }
+{
+    n == usize::from(agent) || !overwrites(due.due())
 }
 
 /// Whether the copies of an agent go with each that another may have; `alone` says that there is to be none.
@@ -226,7 +235,7 @@ impl Line {
     {
         Line {
             stores,
-            due: [Due::Nothing; 32],
+            due: [NOTHING_DUE; 32],
             snooped: [None; 32],
             duty: false,
             may: [NOBODY; 32],
@@ -273,10 +282,11 @@ impl Line {
         if flit.agent.0 >= 32 {
             return Err(Reason::NoAgent);
         }
-        match self.is_timely(flit) {
+        let (got, may) = (self.got(flit), self.given_may(flit));
+        match self.is_timely(flit, got, &may) {
             Err(reason) => Err(reason),
             Ok(()) => {
-                self.give(flit);
+                self.give(flit, got, may);
                 self.shown = shown_behind(&self.due, &self.may, &self.shown, Flit::Down(flit));
                 self.loosen(flit.agent.0);
                 Ok(())
@@ -289,7 +299,7 @@ impl Line {
         requires { agent < 32 }
         ensures { result ≡ due_at self.now.due agent }
     {
-        self.due[usize::from(agent)]
+        self.due[usize::from(agent)].due()
     }
 
     /// The snoop that an agent hasn't answered.
@@ -368,7 +378,7 @@ impl Line {
         self.home = home_then(tells, flit.shown, self.home);
         self.may = others_may(tells, &self.may);
         self.may[at] = left;
-        self.due[at] = due_after(flit.act, self.due[at]);
+        self.due[at] = DueCode::encode(due_after(flit.act, self.due[at].due()));
         self.snooped[at] = snooped_after(flit.act, self.snooped[at]);
         self.duty = duty_after(self.duty, flit.act);
     }
@@ -480,35 +490,44 @@ impl Line {
     }
 
     /// Whether there was its moment, the flit is due, and leaves all in order.
-    fn is_timely(&self, flit: HomeFlit) -> Result<(), Reason>
-        requires { flit.agent.0 < 32 }
+    fn is_timely(&self, flit: HomeFlit, got: Copies, may: &[Copies; 32]) -> Result<(), Reason>
+        requires low { flit.agent.0 < 32 }
+        requires got { (h : HeldOf) → members got h ≡ got_by (observed self.now) flit h }
+        requires may { (n : ℕ) (h : HeldOf) → members (may_at may.now n) h
+            ≡ given_of flit (observed self.now).public (members (may_at self.now.may n)) h }
         ensures takes { is_ok result ≡ (has_moment (observed self.now) (shown_at self.now.shown) flit
             && takes_home (observed self.now) flit) }
         ensures why { IfErr result (λ reason. refused_if (not (has_moment (observed self.now) (shown_at self.now.shown) flit)) NoMoment
             (due_refusal (observed self.now) flit (copy_refusal (observed self.now) flit)) ≡ Some reason) }
     {
         if self.has_moment(flit) {
-            self.is_safe(flit)
+            self.is_safe(flit, got, may)
         } else {
             Err(Reason::NoMoment)
         }
     }
 
     /// Whether the flit is due, and leaves all in order.
-    fn is_safe(&self, flit: HomeFlit) -> Result<(), Reason>
-        requires { flit.agent.0 < 32 }
+    fn is_safe(&self, flit: HomeFlit, got: Copies, may: &[Copies; 32]) -> Result<(), Reason>
+        requires low { flit.agent.0 < 32 }
+        requires got { (h : HeldOf) → members got h ≡ got_by (observed self.now) flit h }
+        requires may { (n : ℕ) (h : HeldOf) → members (may_at may.now n) h
+            ≡ given_of flit (observed self.now).public (members (may_at self.now.may n)) h }
         ensures takes { is_ok result ≡ takes_home (observed self.now) flit }
         ensures why { IfErr result (λ reason. due_refusal (observed self.now) flit (copy_refusal (observed self.now) flit) ≡ Some reason) }
     {
         match self.may_give(flit) {
             Err(reason) => Err(reason),
-            Ok(()) => self.keeps_order(flit),
+            Ok(()) => self.keeps_order(flit, got, may),
         }
     }
 
     /// Whether the flit leaves all in order, where the home may send it.
-    fn keeps_order(&self, flit: HomeFlit) -> Result<(), Reason>
-        requires { flit.agent.0 < 32 }
+    fn keeps_order(&self, flit: HomeFlit, got: Copies, may: &[Copies; 32]) -> Result<(), Reason>
+        requires low { flit.agent.0 < 32 }
+        requires got { (h : HeldOf) → members got h ≡ got_by (observed self.now) flit h }
+        requires may { (n : ℕ) (h : HeldOf) → members (may_at may.now n) h
+            ≡ given_of flit (observed self.now).public (members (may_at self.now.may n)) h }
         ensures keeps { is_ok result ≡ keeps_order (observed self.now) flit }
         ensures why { IfErr result (λ reason. copy_refusal (observed self.now) flit ≡ Some reason) }
     {
@@ -518,7 +537,7 @@ impl Line {
         if self.fills_stored(flit) {
             return Err(Reason::Lost);
         }
-        if !self.goes(flit) {
+        if !self.goes(flit, got, may) {
             return Err(Reason::OtherCopy);
         }
         Ok(())
@@ -563,7 +582,7 @@ impl Line {
     /// The copies of the flit's agent then.
     fn got(&self, flit: HomeFlit) -> Copies
         requires { flit.agent.0 < 32 }
-        ensures { (h : HeldOf) → members result h ≡ got (observed self.now) flit h }
+        ensures { (h : HeldOf) → members result h ≡ got_by (observed self.now) flit h }
     {
         let due = self.due_of(flit.agent.0);
         let may = self.may_of(flit.agent.0);
@@ -582,20 +601,24 @@ impl Line {
     }
 
     /// Whether each copy that another agent may have goes with those of the flit's then.
-    fn goes(&self, flit: HomeFlit) -> bool
-        requires { flit.agent.0 < 32 }
+    fn goes(&self, flit: HomeFlit, got: Copies, may: &[Copies; 32]) -> bool
+        requires low { flit.agent.0 < 32 }
+        requires got { (h : HeldOf) → members got h ≡ got_by (observed self.now) flit h }
+        requires may { (n : ℕ) (h : HeldOf) → members (may_at may.now n) h
+            ≡ given_of flit (observed self.now).public (members (may_at self.now.may n)) h }
         ensures { result ≡ goes (observed self.now) flit }
     {
         let due = self.due_of(flit.agent.0);
         let alone = needs_alone(flit.grant, due);
-        let got = self.got(flit);
-        let may = self.given_may(flit);
-        stands_beside(&may, flit.agent.0, got, alone)
+        stands_beside(may, flit.agent.0, got, alone)
     }
 
     /// What is kept behind a flit of the home, before hidden steps.
-    fn give(&mut self, flit: HomeFlit)
-        requires { flit.agent.0 < 32 }
+    fn give(&mut self, flit: HomeFlit, got: Copies, may: [Copies; 32])
+        requires low { flit.agent.0 < 32 }
+        requires got { (h : HeldOf) → members got h ≡ got_by (observed self.old) flit h }
+        requires may { (n : ℕ) (h : HeldOf) → members (may_at may n) h
+            ≡ given_of flit (observed self.old).public (members (may_at self.old.may n)) h }
         ensures after { observed self.new ≡ given (observed self.old) flit }
         ensures shown { self.new.shown ≡ self.old.shown }
     {
@@ -603,14 +626,12 @@ impl Line {
         let due = self.due_of(flit.agent.0);
         let snooped = self.snooped_of(flit.agent.0);
         let shows = self.is_shown(flit);
-        let got = self.got(flit);
-        let may = self.given_may(flit);
         let makes = makes(flit.grant, due);
         self.news = news_granted(makes, self.news);
         self.home = home_then(shows, flit.shown, self.home);
         self.may = may;
         self.may[at] = got;
-        self.due[at] = due_granted(flit.grant, due);
+        self.due[at] = DueCode::encode(due_granted(flit.grant, due));
         self.snooped[at] = snooped_granted(flit.grant, snooped);
         self.duty = duty_granted(self.duty, flit.grant);
     }

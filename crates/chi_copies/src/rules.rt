@@ -1,7 +1,7 @@
 //! What flits say by themselves.
 
 ghost use Rattle.std.specs.Prelude.{◌≡◌, ◌&&◌, ◌||◌, Some, not};
-ghost use Rattle.chi_observer.specs.Rules.{allows, answer_drops, answer_has_data, are_hidden, awaits_moment, completes, due_after, due_granted, form_has_data, form_passes, gives_copy, gives_data, gives_up, has_data, is_busy, is_clean_form, is_completed, is_copy_back, is_due, is_request, is_shared_form, is_upgraded, is_whole_write, is_written_whole, leaves, left_by, lets_go, makes, needs_alone, needs_duty, needs_moment, needs_overwriter, needs_quiet, overwrites, passes_duty, reads_once, same_kind, settles, snooped_after, snooped_granted, tells_words, writes};
+ghost use Rattle.chi_observer.specs.Rules.{allows, answer_drops, answer_has_data, are_hidden, completes, due_after, due_granted, form_has_data, form_passes, gives_copy, gives_data, gives_up, has_data, is_clean_form, is_completed, is_copy_back, is_due, is_request, is_shared_form, is_upgraded, is_whole_write, is_written_whole, leaves, left_by, lets_go, makes, needs_alone, needs_duty, needs_moment, needs_overwriter, needs_quiet, overwrites, passes_duty, reads_once, same_kind, settles, snooped_after, snooped_granted, tells_words, writes};
 
 use chi_flit::State;
 use chi_observer::{Act, Answer, Due, Grant, Kind, Snoop, Stores};
@@ -310,18 +310,6 @@ pub(crate) fn needs_alone(grant: Grant, due: Due) -> bool
     )
 }
 
-/// Whether a CleanShared or a ReadOnce is open, whose completion needs a moment since its issue.
-pub(crate) fn awaits_moment(due: Due) -> bool
-    ensures { result ≡ awaits_moment due }
-{
-    matches!(
-        due,
-        Due::Completion(Kind::CleanShared | Kind::ReadOnce)
-            | Due::Resending(Kind::CleanShared | Kind::ReadOnce)
-            | Due::SureCompletion(Kind::CleanShared | Kind::ReadOnce)
-    )
-}
-
 /// Whether a ReadOnce is open.
 pub(crate) fn reads_once(due: Due) -> bool
     ensures { result ≡ reads_once due }
@@ -432,13 +420,6 @@ pub(crate) fn settles(grant: Grant, due: Due) -> bool
             Due::Completion(Kind::MakeInvalid) | Due::SureCompletion(Kind::MakeInvalid)
         )
     )
-}
-
-/// Whether a CompAck or write data are due.
-pub(crate) fn is_busy(due: Due) -> bool
-    ensures { result ≡ is_busy due }
-{
-    matches!(due, Due::WriteData(_) | Due::Acknowledgement)
 }
 
 /// What is due behind a flit of the home.

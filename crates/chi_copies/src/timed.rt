@@ -1,15 +1,29 @@
 //! Moments at which no other copy was dirty, or the home had the value last stored.
 
 ghost use Rattle.std.specs.Prelude.{◌≡◌, ◌<◌, ◌&&◌, ◌||◌, ◌==◌, ℕ, not};
+ghost use Rattle.chi_observer.specs.Rules.{awaits_moment};
+ghost use Rattle.chi_copies.specs.Worlds.{all_below};
 ghost use Rattle.chi_copies.specs.Moments.{is_issue};
-ghost use Rattle.chi_copies.specs.Lines.{clean_beside, moment_here, none_dirty_of, none_stored_of, shown_at, shown_here};
+ghost use Rattle.chi_copies.specs.Lines.{clean_beside, due_at, moment_here, none_dirty_of, none_stored_of, shown_at, shown_here};
 ghost use Rattle.chi_copies.specs.Sets.{members};
 
 use crate::copies::Copies;
+use crate::dues::DueCode;
 use crate::line::may_at;
-use crate::rules::{awaits_moment, is_request, reads_once};
+use crate::rules::{is_request, reads_once};
 use crate::tests::Test;
-use chi_observer::{Due, Flit};
+use chi_observer::Flit;
+
+/// Whether no request needs a moment.
+fn is_none_awaiting(due: &[DueCode; 32]) -> bool
+    ensures { result ≡ all_below 32 (λ m. not (awaits_moment (due_at due.now m))) }
+{
+    let mut none = true;
+    for n in 0..32 {
+        none &= !due[n].awaits_moment();
+    }
+    none
+}
 
 /// Whether the flit is the agent's request.
 fn is_issue(flit: Flit, agent: usize) -> bool
@@ -56,11 +70,11 @@ fn is_none_dirty(may: &[Copies; 32], agent: usize) -> bool
 }
 
 /// Whether it is the moment that the agent's request needs.
-fn is_moment(due: &[Due; 32], may: &[Copies; 32], agent: usize) -> bool
+fn is_moment(due: &[DueCode; 32], may: &[Copies; 32], agent: usize) -> bool
     requires { agent < 32 }
     ensures { result ≡ moment_here due.now may.now agent }
 {
-    if reads_once(due[agent]) {
+    if reads_once(due[agent].due()) {
         is_none_stored(may)
     } else {
         is_none_dirty(may, agent)
@@ -68,23 +82,26 @@ fn is_moment(due: &[Due; 32], may: &[Copies; 32], agent: usize) -> bool
 }
 
 /// Whether there was the moment that the agent's request needs since its issue, behind the flit.
-fn is_shown(due: &[Due; 32], may: &[Copies; 32], agent: usize, flit: Flit, was: bool) -> bool
+fn is_shown(due: &[DueCode; 32], may: &[Copies; 32], agent: usize, flit: Flit, was: bool) -> bool
     requires { agent < 32 }
     ensures { result ≡ shown_here due.now may.now flit was agent }
 {
-    awaits_moment(due[agent]) && ((!is_issue(flit, agent) && was) || is_moment(due, may, agent))
+    due[agent].awaits_moment() && ((!is_issue(flit, agent) && was) || is_moment(due, may, agent))
 }
 
 /// Whether there was the moment that each agent's request needs, behind the flit: what is due, and the copies, are as the flit
 /// leaves them, before hidden steps.
 pub(crate) fn shown_behind(
-    due: &[Due; 32],
+    due: &[DueCode; 32],
     may: &[Copies; 32],
     shown: &[bool; 32],
     flit: Flit,
 ) -> [bool; 32]
     ensures { (n : ℕ) → shown_at result n ≡ shown_here due.now may.now flit (shown_at shown.now n) n }
 {
+    if is_none_awaiting(due) {
+        return [false; 32];
+    }
     let mut behind = [false; 32];
     for n in 0..32 {
         behind[n] = is_shown(due, may, n, flit, shown[n]);

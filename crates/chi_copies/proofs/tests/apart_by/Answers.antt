@@ -1,5 +1,5 @@
 -- None at all is left.
-use Rattle.std.proofs.Common.{◌≡◌, sym, ap, ◌∙◌}
+use Rattle.std.proofs.Common.{sym, ap, ◌∙◌}
 use Rattle.std.specs.Prelude.{Bool, ◌&&◌, ◌||◌, not}
 use Rattle.chi_observer.specs.Copies.{same}
 use Rattle.chi_observer.specs.Copies.Copy.{Invalid}

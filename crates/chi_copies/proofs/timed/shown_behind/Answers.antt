@@ -4,7 +4,7 @@ use Rattle.std.proofs.lemmas.List.{get_or-set_other}
 use Rattle.std.proofs.lemmas.Grind.{get_or-set_at}
 use Rattle.std.specs.Prelude.{false}
 use Rattle.chi_copies.specs.Lines.{shown_at, shown_here}
-use Rattle.chi_copies.proofs.Lines.{timed_each}
+use Rattle.chi_copies.proofs.Lines.{timed_each, untimed}
 use Rattle.chi_copies.proofs.Put.{split}
 use Rattle.chi_copies.proofs.timed.shown_behind.Goals as goal
 
@@ -30,3 +30,8 @@ returns c =
     let all : c.loop-n.n ≡ 32 = omega (arith, c.loop-n-test.false, c.loop-n.auto.n-end) in
     let dues : length c.args.due.now ≡ 32 = search (rules, arith) in
     timed_each c.args.due.now c.args.may.now c.args.shown.now c.loop-n.behind c.args.flit dues c.loop-n.invariant.0 (λ m low. c.loop-n.invariant.1 m (subst (λ (k : ℕ). m < k) (sym all) low))
+
+pub returns-then-is_none_awaiting : goal.returns-then-is_none_awaiting
+returns-then-is_none_awaiting c =
+    let dues : length c.args.due.now ≡ 32 = search (rules, arith) in
+    untimed c.args.due.now c.args.may.now c.args.shown.now c.args.flit dues (sym c.is_none_awaiting.ensures ∙ c.if-is_none_awaiting.true)

@@ -1,5 +1,5 @@
 -- No hidden step is possible while something is due.
-use Rattle.std.proofs.Common.{◌≡◌, sym, ◌∙◌}
+use Rattle.std.proofs.Common.{sym, ◌∙◌}
 use Rattle.chi_copies.specs.Sets.{members}
 use Rattle.chi_copies.proofs.Bits.{hidden_same}
 use Rattle.chi_copies.proofs.copies.Copies.hidden.Goals as goal

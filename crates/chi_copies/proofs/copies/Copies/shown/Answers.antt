@@ -1,5 +1,5 @@
 -- The home has their words already.
-use Rattle.std.proofs.Common.{◌≡◌, sym, ◌∙◌}
+use Rattle.std.proofs.Common.{sym, ◌∙◌}
 use Rattle.chi_copies.specs.Sets.{members}
 use Rattle.chi_copies.proofs.Bits.{shown_same}
 use Rattle.chi_copies.proofs.copies.Copies.shown.Goals as goal

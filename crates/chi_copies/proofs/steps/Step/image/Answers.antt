@@ -1,5 +1,5 @@
 -- One copy after the other.
-use Rattle.std.proofs.Common.{rules, arith, ◌≡◌, ◌<◌, ℕ, ap, ◌∙◌}
+use Rattle.std.proofs.Common.{rules, arith, ◌≡◌, ap, ◌∙◌}
 use Rattle.std.specs.Prelude.{◌||◌}
 use Rattle.chi_copies.specs.Copies.{image}
 use Rattle.chi_copies.specs.Sets.{held_at, members}

@@ -1,5 +1,5 @@
 -- Those that a store may be to, of the one sort.
-use Rattle.std.proofs.Common.{◌≡◌, sym, ap, ◌∙◌}
+use Rattle.std.proofs.Common.{sym, ap, ◌∙◌}
 use Rattle.std.specs.Prelude.{◌&&◌}
 use Rattle.chi_copies.specs.Lines.{passes}
 use Rattle.chi_copies.proofs.Bits.{unique_empty, unique_newer}
