@@ -189,6 +189,10 @@ impl Sent {
             return left;
         }
         let own = with_left(left, fits.own, self.acts(true, held));
-        with_left(own, fits.other, self.acts(false, held))
+        if fits.other {
+            with_left(own, true, self.acts(false, held))
+        } else {
+            own
+        }
     }
 }
