@@ -30,7 +30,7 @@ use Rattle.chi_copies.specs.Worlds.{put, is_placed, all_below, home_may}
 use Rattle.chi_copies.specs.Observed.{Observed, any_of, fits_at, differs_at, fits_each, home_at, may_own, of_eight, shown_all, sends, sent, stores_from, known_before, has_news, moved, loose, takes, news_after, no_words, got, given, given_of, goes, is_beside, fits_home, takes_home}
 use Rattle.chi_copies.specs.Runs.{nothing_told}
 use Rattle.chi_copies.specs.Sets.{members}
-use Rattle.chi_copies.specs.Lines.{fits_by, fits_any, known_at, sends_by, sent_of, nobody, nothing_due, may_at, due_at, snooped_at, observed, known_stored, others_may, passes, keeps_order, is_taken_home, shown_at, shown_here, none_stored_of, none_dirty_of}
+use Rattle.chi_copies.specs.Lines.{fits_by, fits_any, known_at, sends_by, sent_of, nobody, nothing_due, may_at, due_at, snooped_at, observed, known_stored, others_may, passes, keeps_order, is_taken_home, issues, shown_at, shown_here, none_stored_of, none_dirty_of}
 use Rattle.chi_copies.proofs.Finite.{no, turned, each_held, in_held}
 use Rattle.chi_copies.proofs.Put.{here, there, split}
 use Rattle.chi_copies.proofs.Sets.{alike_is, each_below, same_itself, stay_is}
@@ -445,20 +445,21 @@ module _ (o : Observed) (g : HomeFlit) where
 pub no_moments : (n : ℕ) → shown_at (replicate 32 false) n ≡ false
 no_moments n = all_same 32 n false
 
-pub shown_is : (mid : Line) (o : Observed) (e : Flit) (before shown : List Bool) (n : ℕ) → observed mid ≡ behind o e → mid.shown ≡ before → shown_at shown n ≡ shown_here mid.due mid.may e (shown_at mid.shown n) n → shown_at shown n ≡ shown_after o e (shown_at before) n
-shown_is mid o e before shown n h hs each = each ∙ ap (λ s. shown_here mid.due mid.may e (shown_at s n) n) hs
+pub shown_is : (mid : Line) (o : Observed) (e : Flit) (issuer : Option ℕ) (before shown : List Bool) (n : ℕ) → observed mid ≡ behind o e → mid.shown ≡ before → issues issuer n ≡ is_issue e n → shown_at shown n ≡ shown_here mid.due mid.may issuer (shown_at mid.shown n) n → shown_at shown n ≡ shown_after o e (shown_at before) n
+shown_is mid o e issuer before shown n h hs hi each = each ∙ ap (λ s. shown_here mid.due mid.may issuer (shown_at s n) n) hs
+    ∙ ap (λ (b : Bool). awaits_moment (due_at mid.due n) && ((not b && shown_at before n) || (if reads_once (due_at mid.due n) then none_stored_of mid.may else none_dirty_of mid.may n))) hi
     ∙ ap (λ (x : Observed). awaits_moment (x.public.due n) && ((not (is_issue e n) && shown_at before n) || is_moment x n)) h
 
-timed_past : (due : List DueCode) (may : List CopiesCode) (before now : List Bool) (e : Flit) (n : ℕ) → length due ≡ 32 → length now ≡ 32 → 32 ≤ n → shown_at now n ≡ shown_here due may e (shown_at before n) n
+timed_past : (due : List DueCode) (may : List CopiesCode) (before now : List Bool) (e : Option ℕ) (n : ℕ) → length due ≡ 32 → length now ≡ 32 → 32 ≤ n → shown_at now n ≡ shown_here due may e (shown_at before n) n
 timed_past due may before now e n ld lb h = get_or_past now n false (subst (λ (k : ℕ). k ≤ n) (sym lb) h)
-    ∙ sym (ap (λ d. awaits_moment d && ((not (is_issue e n) && shown_at before n) || (if reads_once d then none_stored_of may else none_dirty_of may n))) (ap due_is (get_or_past due n nothing_due (subst (λ (k : ℕ). k ≤ n) (sym ld) h))))
+    ∙ sym (ap (λ d. awaits_moment d && ((not (issues e n) && shown_at before n) || (if reads_once d then none_stored_of may else none_dirty_of may n))) (ap due_is (get_or_past due n nothing_due (subst (λ (k : ℕ). k ≤ n) (sym ld) h))))
 
-timed_by : (due : List DueCode) (may : List CopiesCode) (before now : List Bool) (e : Flit) → length due ≡ 32 → length now ≡ 32 → ((n : ℕ) → n < 32 → shown_at now n ≡ shown_here due may e (shown_at before n) n) → (n : ℕ) → (n < 32) ⊎ (32 ≤ n) → shown_at now n ≡ shown_here due may e (shown_at before n) n
+timed_by : (due : List DueCode) (may : List CopiesCode) (before now : List Bool) (e : Option ℕ) → length due ≡ 32 → length now ≡ 32 → ((n : ℕ) → n < 32 → shown_at now n ≡ shown_here due may e (shown_at before n) n) → (n : ℕ) → (n < 32) ⊎ (32 ≤ n) → shown_at now n ≡ shown_here due may e (shown_at before n) n
 timed_by due may before now e ld lb each n (inl h) = each n h
 timed_by due may before now e ld lb each n (inr h) = timed_past due may before now e n ld lb h
 
-pub timed_each : (due : List DueCode) (may : List CopiesCode) (before now : List Bool) (e : Flit) → length due ≡ 32 → length now ≡ 32 → ((n : ℕ) → n < 32 → shown_at now n ≡ shown_here due may e (shown_at before n) n) → (n : ℕ) → shown_at now n ≡ shown_here due may e (shown_at before n) n
+pub timed_each : (due : List DueCode) (may : List CopiesCode) (before now : List Bool) (e : Option ℕ) → length due ≡ 32 → length now ≡ 32 → ((n : ℕ) → n < 32 → shown_at now n ≡ shown_here due may e (shown_at before n) n) → (n : ℕ) → shown_at now n ≡ shown_here due may e (shown_at before n) n
 timed_each due may before now e ld lb each n = timed_by due may before now e ld lb each n (past_by n (nat_lt n 32) refl)
 
-pub untimed : (due : List DueCode) (may : List CopiesCode) (before : List Bool) (e : Flit) → length due ≡ 32 → all_below 32 (λ m. not (awaits_moment (due_at due m))) ≡ true → (n : ℕ) → shown_at (replicate 32 false) n ≡ shown_here due may e (shown_at before n) n
-untimed due may before e ld none = timed_each due may before (replicate 32 false) e ld refl (λ n low. all_same 32 n false ∙ ap (λ a. a && ((not (is_issue e n) && shown_at before n) || (if reads_once (due_at due n) then none_stored_of may else none_dirty_of may n))) (sym (turned (awaits_moment (due_at due n)) (each_below 32 (λ m. not (awaits_moment (due_at due m))) none n low))))
+pub untimed : (due : List DueCode) (may : List CopiesCode) (before : List Bool) (e : Option ℕ) → length due ≡ 32 → all_below 32 (λ m. not (awaits_moment (due_at due m))) ≡ true → (n : ℕ) → shown_at (replicate 32 false) n ≡ shown_here due may e (shown_at before n) n
+untimed due may before e ld none = timed_each due may before (replicate 32 false) e ld refl (λ n low. all_same 32 n false ∙ ap (λ a. a && ((not (issues e n) && shown_at before n) || (if reads_once (due_at due n) then none_stored_of may else none_dirty_of may n))) (sym (turned (awaits_moment (due_at due n)) (each_below 32 (λ m. not (awaits_moment (due_at due m))) none n low))))

@@ -1,5 +1,5 @@
 -- What is due of an agent's request, as one byte (docs/COPIES.md, "What is kept").
-use Rattle.std.specs.Prelude.{ℕ, ◌-◌, ◌/◌, ◌%◌, ◌==◌, ◌&&◌, nat_lt, if◌then◌else◌}
+use Rattle.std.specs.Prelude.{ℕ, ◌/◌, ◌%◌, ◌==◌, if◌then◌else◌}
 use Rattle.chi_observer.specs.declared.kinds.Kind.{Kind}
 use Rattle.chi_observer.specs.declared.kinds.Kind.TheVariants.{ReadNotSharedDirty, ReadShared, ReadClean, ReadOnce, ReadUnique, CleanUnique, MakeUnique, CleanShared, CleanInvalid, MakeInvalid, Evict, WriteBackFull, WriteCleanFull, WriteEvictFull, WriteUniqueFull}
 use Rattle.chi_observer.specs.declared.flits.Due.{Due}
@@ -9,14 +9,14 @@ use Rattle.chi_copies.specs.declared.dues.DueCode.{DueCode}
 -- the kind of a number
 abbrev pub kind_at : ℕ → Kind
 kind_at k =
-    if k == 0 then ReadOnce else (
-    if k == 1 then CleanShared else (
-    if k == 2 then ReadNotSharedDirty else (
-    if k == 3 then ReadShared else (
-    if k == 4 then ReadClean else (
-    if k == 5 then ReadUnique else (
-    if k == 6 then CleanUnique else (
-    if k == 7 then MakeUnique else (
+    if k == 0 then ReadNotSharedDirty else (
+    if k == 1 then ReadShared else (
+    if k == 2 then ReadClean else (
+    if k == 3 then ReadOnce else (
+    if k == 4 then ReadUnique else (
+    if k == 5 then CleanUnique else (
+    if k == 6 then MakeUnique else (
+    if k == 7 then CleanShared else (
     if k == 8 then CleanInvalid else (
     if k == 9 then MakeInvalid else (
     if k == 10 then Evict else (
@@ -24,15 +24,14 @@ kind_at k =
     if k == 12 then WriteCleanFull else (
     if k == 13 then WriteEvictFull else WriteUniqueFull)))))))))))))
 
--- an open request
-abbrev pub open_at : ℕ → Kind → Due
-open_at r kind = if r == 0 then Completion kind else (if r == 1 then Resending kind else SureCompletion kind)
-
-abbrev pub due_of_byte : ℕ → Due
-due_of_byte c =
-    if nat_lt 0 c && nat_lt c 46 then open_at ((c - 1) % 3) (kind_at ((c - 1) / 3)) else (
-    if nat_lt 127 c && nat_lt c 143 then WriteData (kind_at (c - 128)) else (
-    if c == 143 then Acknowledgement else Nothing))
+-- the upper half of a byte says what is due, the lower of which kind
+abbrev pub due_at_half : ℕ → Kind → Due
+due_at_half p kind =
+    if p == 1 then Completion kind else (
+    if p == 2 then Resending kind else (
+    if p == 3 then SureCompletion kind else (
+    if p == 8 then WriteData kind else (
+    if p == 9 then Acknowledgement else Nothing))))
 
 abbrev pub due_is : DueCode → Due
-due_is c = due_of_byte c.0
+due_is c = due_at_half (c.0 / 16) (kind_at (c.0 % 16))

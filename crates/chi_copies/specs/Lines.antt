@@ -1,12 +1,11 @@
 -- A line of the code as what the observer keeps of it, and the code's words for one copy's steps (docs/COPIES.md, "What is kept").
-use Rattle.std.specs.Prelude.{ℕ, ◌==◌, List, Bool, true, false, ◌&&◌, ◌||◌, not, nat_lt, Option, None, if◌then◌else◌}
+use Rattle.std.specs.Prelude.{ℕ, ◌==◌, List, Bool, true, false, ◌&&◌, ◌||◌, not, nat_lt, Option, Some, None, if◌then◌else◌}
 use Rattle.std.specs.List.{slice_index_or}
 use Rattle.chi_observer.specs.declared.flits.Act.{Act}
 use Rattle.chi_observer.specs.declared.flits.Act.TheVariants.{Load}
 use Rattle.chi_observer.specs.declared.flits.Due.{Due}
 use Rattle.chi_observer.specs.declared.flits.CacheFlit.{CacheFlit}
 use Rattle.chi_observer.specs.declared.flits.HomeFlit.{HomeFlit}
-use Rattle.chi_observer.specs.declared.flits.Flit.{Flit}
 use Rattle.chi_observer.specs.declared.kinds.Snoop.{Snoop}
 use Rattle.chi_observer.specs.Copies.{holds_data, is_dirty, is_unique, same}
 use Rattle.chi_observer.specs.Copies.Copy.{Invalid}
@@ -25,7 +24,7 @@ use Rattle.chi_copies.specs.Copies.{Held, Copies, shown_of, is_fresh, is_newer, 
 use Rattle.chi_copies.specs.Rules.{may_store, may_hide, acts, slips, granted, fills, shows}
 use Rattle.chi_copies.specs.Observed.{Observed, any_of, fits_each, fits_home, goes, home_at, may_own, of_eight, shown_all, takes, takes_home}
 use Rattle.chi_copies.specs.Worlds.{all_below}
-use Rattle.chi_copies.specs.Moments.{is_issue, has_moment}
+use Rattle.chi_copies.specs.Moments.{has_moment}
 use Rattle.chi_copies.specs.Sets.{held_is, members}
 
 -- WORDS of a flit of a cache beside those that are known
@@ -136,6 +135,11 @@ none_dirty_of may n = all_below 32 (λ m. clean_beside (members (may_at may m)) 
 abbrev pub moment_here : List DueCode → List CopiesCode → ℕ → Bool
 moment_here due may n = if reads_once (due_at due n) then none_stored_of may else none_dirty_of may n
 
+-- whether the request that a flit is, if it is one, is this agent's
+abbrev pub issues : Option ℕ → ℕ → Bool
+issues None n = false
+issues (Some m) n = n == m
+
 -- right behind a flit
-abbrev pub shown_here : List DueCode → List CopiesCode → Flit → Bool → ℕ → Bool
-shown_here due may e was n = awaits_moment (due_at due n) && ((not (is_issue e n) && was) || moment_here due may n)
+abbrev pub shown_here : List DueCode → List CopiesCode → Option ℕ → Bool → ℕ → Bool
+shown_here due may issuer was n = awaits_moment (due_at due n) && ((not (issues issuer n) && was) || moment_here due may n)

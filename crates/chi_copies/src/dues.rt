@@ -2,13 +2,12 @@
 
 ghost use Rattle.std.specs.Prelude.{◌≡◌, ◌<◌};
 ghost use Rattle.chi_observer.specs.Rules.{awaits_moment as awaits, is_busy as busy};
-ghost use Rattle.chi_copies.specs.Dues.{due_is, kind_at, open_at};
+ghost use Rattle.chi_copies.specs.Dues.{due_is, kind_at};
 
 use chi_observer::{Due, Kind};
 
-/// What is due next of an agent's request, as one byte. Questions to all agents are asked of their bytes, which stand
-/// side by side. Each byte stands for something: 1 to 45 for a request that is open, 128 to 143 for write data or a
-/// CompAck, any other for nothing.
+/// What is due next of an agent's request, as one byte: its upper half says what, and its lower half of which kind of request.
+/// Questions to all agents are asked of their bytes, which stand side by side. Each byte stands for something.
 /// Source: `docs/COPIES.md`, "What is kept".
 #[derive(Clone, Copy, Debug, PartialEq, Eq)]
 pub struct DueCode(pub u8);
@@ -17,20 +16,20 @@ pub struct DueCode(pub u8);
 /// Source: `docs/COPIES.md`, "What is kept".
 pub const NOTHING_DUE: DueCode = DueCode(0);
 
-/// The number of a kind. Those that need a moment come first.
+/// The number of a kind.
 fn kind_number(kind: Kind) -> u8
     ensures low { result < 15 }
     ensures of { kind_at result ≡ kind }
 {
     match kind {
-        Kind::ReadOnce => 0,
-        Kind::CleanShared => 1,
-        Kind::ReadNotSharedDirty => 2,
-        Kind::ReadShared => 3,
-        Kind::ReadClean => 4,
-        Kind::ReadUnique => 5,
-        Kind::CleanUnique => 6,
-        Kind::MakeUnique => 7,
+        Kind::ReadNotSharedDirty => 0,
+        Kind::ReadShared => 1,
+        Kind::ReadClean => 2,
+        Kind::ReadOnce => 3,
+        Kind::ReadUnique => 4,
+        Kind::CleanUnique => 5,
+        Kind::MakeUnique => 6,
+        Kind::CleanShared => 7,
         Kind::CleanInvalid => 8,
         Kind::MakeInvalid => 9,
         Kind::Evict => 10,
@@ -46,14 +45,14 @@ fn kind_at(number: u8) -> Kind
     ensures { result ≡ kind_at number }
 {
     match number {
-        0 => Kind::ReadOnce,
-        1 => Kind::CleanShared,
-        2 => Kind::ReadNotSharedDirty,
-        3 => Kind::ReadShared,
-        4 => Kind::ReadClean,
-        5 => Kind::ReadUnique,
-        6 => Kind::CleanUnique,
-        7 => Kind::MakeUnique,
+        0 => Kind::ReadNotSharedDirty,
+        1 => Kind::ReadShared,
+        2 => Kind::ReadClean,
+        3 => Kind::ReadOnce,
+        4 => Kind::ReadUnique,
+        5 => Kind::CleanUnique,
+        6 => Kind::MakeUnique,
+        7 => Kind::CleanShared,
         8 => Kind::CleanInvalid,
         9 => Kind::MakeInvalid,
         10 => Kind::Evict,
@@ -61,17 +60,6 @@ fn kind_at(number: u8) -> Kind
         12 => Kind::WriteCleanFull,
         13 => Kind::WriteEvictFull,
         _ => Kind::WriteUniqueFull,
-    }
-}
-
-/// What is due of an open request of the kind, by the remainder of its byte.
-fn open_at(rest: u8, kind: Kind) -> Due
-    ensures { result ≡ open_at rest kind }
-{
-    match rest {
-        0 => Due::Completion(kind),
-        1 => Due::Resending(kind),
-        _ => Due::SureCompletion(kind),
     }
 }
 
@@ -83,11 +71,11 @@ impl DueCode {
     {
         match due {
             Due::Nothing => NOTHING_DUE,
-            Due::Completion(kind) => DueCode(1 + 3 * kind_number(kind)),
-            Due::Resending(kind) => DueCode(2 + 3 * kind_number(kind)),
-            Due::SureCompletion(kind) => DueCode(3 + 3 * kind_number(kind)),
+            Due::Completion(kind) => DueCode(16 + kind_number(kind)),
+            Due::Resending(kind) => DueCode(32 + kind_number(kind)),
+            Due::SureCompletion(kind) => DueCode(48 + kind_number(kind)),
             Due::WriteData(kind) => DueCode(128 + kind_number(kind)),
-            Due::Acknowledgement => DueCode(143),
+            Due::Acknowledgement => DueCode(144),
         }
     }
 
@@ -96,10 +84,13 @@ impl DueCode {
     pub fn due(self) -> Due
         ensures { result ≡ due_is self }
     {
-        match self.0 {
-            1..=45 => open_at((self.0 - 1) % 3, kind_at((self.0 - 1) / 3)),
-            128..=142 => Due::WriteData(kind_at(self.0 - 128)),
-            143 => Due::Acknowledgement,
+        let kind = kind_at(self.0 % 16);
+        match self.0 / 16 {
+            1 => Due::Completion(kind),
+            2 => Due::Resending(kind),
+            3 => Due::SureCompletion(kind),
+            8 => Due::WriteData(kind),
+            9 => Due::Acknowledgement,
             _ => Due::Nothing,
         }
     }
@@ -108,13 +99,13 @@ impl DueCode {
     pub(crate) fn awaits_moment(self) -> bool
         ensures { result ≡ awaits (due_is self) }
     {
-        0 < self.0 && self.0 < 7
+        15 < self.0 && (self.0 < 64 && (self.0 % 16 < 8 && self.0 % 4 == 3))
     }
 
     /// Whether a CompAck or write data are due.
     pub(crate) fn is_busy(self) -> bool
         ensures { result ≡ busy (due_is self) }
     {
-        127 < self.0 && self.0 < 144
+        127 < self.0 && self.0 < 160
     }
 }

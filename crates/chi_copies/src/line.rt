@@ -28,9 +28,9 @@ use crate::rules::{
 use crate::sends::{Sent, fits_by, fits_each, is_placed};
 use crate::steps::Step;
 use crate::tests::{Test, apart_by};
-use crate::timed::shown_behind;
+use crate::timed::{issuer_of, shown_behind};
 use chi_flit::Data;
-use chi_observer::{Act, CacheFlit, Due, Flit, Grant, HomeFlit, Snoop, Stores, Word};
+use chi_observer::{Act, CacheFlit, Due, Grant, HomeFlit, Snoop, Stores, Word};
 
 /// How many agents a line follows; their numbers are below it.
 /// Source: `docs/COPIES.md`, "What is kept".
@@ -262,7 +262,7 @@ impl Line {
             None => Err(Reason::NotSent),
             Some(left) => {
                 self.move_to(flit, left);
-                self.shown = shown_behind(&self.due, &self.may, &self.shown, Flit::Up(flit));
+                self.shown = shown_behind(&self.due, &self.may, &self.shown, issuer_of(flit));
                 self.loosen(flit.agent.0);
                 Ok(())
             }
@@ -287,7 +287,7 @@ impl Line {
             Err(reason) => Err(reason),
             Ok(()) => {
                 self.give(flit, got, may);
-                self.shown = shown_behind(&self.due, &self.may, &self.shown, Flit::Down(flit));
+                self.shown = shown_behind(&self.due, &self.may, &self.shown, None);
                 self.loosen(flit.agent.0);
                 Ok(())
             }

@@ -4,7 +4,8 @@ ghost use Rattle.std.specs.Prelude.{◌≡◌, ◌<◌, ◌&&◌, ◌||◌, ◌=
 ghost use Rattle.chi_observer.specs.Rules.{awaits_moment};
 ghost use Rattle.chi_copies.specs.Worlds.{all_below};
 ghost use Rattle.chi_copies.specs.Moments.{is_issue};
-ghost use Rattle.chi_copies.specs.Lines.{clean_beside, due_at, moment_here, none_dirty_of, none_stored_of, shown_at, shown_here};
+ghost use Rattle.chi_observer.specs.declared.flits.Flit.TheVariants.{Up};
+ghost use Rattle.chi_copies.specs.Lines.{issues, clean_beside, due_at, moment_here, none_dirty_of, none_stored_of, shown_at, shown_here};
 ghost use Rattle.chi_copies.specs.Sets.{members};
 
 use crate::copies::Copies;
@@ -12,7 +13,7 @@ use crate::dues::DueCode;
 use crate::line::may_at;
 use crate::rules::{is_request, reads_once};
 use crate::tests::Test;
-use chi_observer::Flit;
+use chi_observer::CacheFlit;
 
 /// Whether no request needs a moment.
 fn is_none_awaiting(due: &[DueCode; 32]) -> bool
@@ -25,13 +26,24 @@ fn is_none_awaiting(due: &[DueCode; 32]) -> bool
     none
 }
 
-/// Whether the flit is the agent's request.
-fn is_issue(flit: Flit, agent: usize) -> bool
-    ensures { result ≡ is_issue flit agent }
+/// The agent whose request the flit is.
+pub(crate) fn issuer_of(flit: CacheFlit) -> Option<u8>
+    ensures { (n : ℕ) → issues result n ≡ is_issue (Up flit) n }
 {
-    match flit {
-        Flit::Up(sent) => is_request(sent.act) && agent == usize::from(sent.agent.0),
-        Flit::Down(_) => false,
+    if is_request(flit.act) {
+        Some(flit.agent.0)
+    } else {
+        None
+    }
+}
+
+/// Whether the agent is this one.
+fn is_issuer(issuer: Option<u8>, agent: usize) -> bool
+    ensures { result ≡ issues issuer agent }
+{
+    match issuer {
+        None => false,
+        Some(one) => agent == usize::from(one),
     }
 }
 
@@ -82,29 +94,35 @@ fn is_moment(due: &[DueCode; 32], may: &[Copies; 32], agent: usize) -> bool
 }
 
 /// Whether there was the moment that the agent's request needs since its issue, behind the flit.
-fn is_shown(due: &[DueCode; 32], may: &[Copies; 32], agent: usize, flit: Flit, was: bool) -> bool
+fn is_shown(
+    due: &[DueCode; 32],
+    may: &[Copies; 32],
+    issuer: Option<u8>,
+    was: bool,
+    agent: usize,
+) -> bool
     requires { agent < 32 }
-    ensures { result ≡ shown_here due.now may.now flit was agent }
+    ensures { result ≡ shown_here due.now may.now issuer was agent }
 {
-    due[agent].awaits_moment() && ((!is_issue(flit, agent) && was) || is_moment(due, may, agent))
+    due[agent].awaits_moment() && ((!is_issuer(issuer, agent) && was) || is_moment(due, may, agent))
 }
 
-/// Whether there was the moment that each agent's request needs, behind the flit: what is due, and the copies, are as the flit
-/// leaves them, before hidden steps.
+/// Whether there was the moment that each agent's request needs, behind a flit: what is due, and the copies, are as the flit
+/// leaves them, before hidden steps. If the flit is a request, `issuer` is its agent.
 pub(crate) fn shown_behind(
     due: &[DueCode; 32],
     may: &[Copies; 32],
     shown: &[bool; 32],
-    flit: Flit,
+    issuer: Option<u8>,
 ) -> [bool; 32]
-    ensures { (n : ℕ) → shown_at result n ≡ shown_here due.now may.now flit (shown_at shown.now n) n }
+    ensures { (n : ℕ) → shown_at result n ≡ shown_here due.now may.now issuer (shown_at shown.now n) n }
 {
     if is_none_awaiting(due) {
         return [false; 32];
     }
     let mut behind = [false; 32];
     for n in 0..32 {
-        behind[n] = is_shown(due, may, n, flit, shown[n]);
+        behind[n] = is_shown(due, may, issuer, shown[n], n);
     }
     behind
 }

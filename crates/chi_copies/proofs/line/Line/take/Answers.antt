@@ -11,4 +11,4 @@ returns-in-Some-clause-after c = c.loosen.ensures.after ∙ ap (loose c.args.fli
 
 pub returns-in-Some-clause-moments : goal.returns-in-Some-clause-moments
 returns-in-Some-clause-moments c = λ n. ap (λ s. shown_at s n) c.loosen.ensures.shown
-    ∙ shown_is c.move_to.new.self (observed c.args.self.now) (Up c.args.flit) c.args.self.now.shown c.shown_behind-self.result n c.move_to.ensures.after c.move_to.ensures.shown (c.shown_behind-self.ensures n)
+    ∙ shown_is c.move_to.new.self (observed c.args.self.now) (Up c.args.flit) c.issuer_of.result c.args.self.now.shown c.shown_behind-self.result n c.move_to.ensures.after c.move_to.ensures.shown (c.issuer_of.ensures n) (c.shown_behind-self.ensures n)

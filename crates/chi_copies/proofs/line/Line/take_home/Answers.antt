@@ -1,6 +1,6 @@
 -- It is what the observer keeps then.
-use Rattle.std.proofs.Common.{ap, ◌∙◌}
-use Rattle.std.specs.Prelude.{true, false, nat_lt, not}
+use Rattle.std.proofs.Common.{refl, ap, ◌∙◌}
+use Rattle.std.specs.Prelude.{true, false, nat_lt, not, None}
 use Rattle.chi_copies.specs.declared.line.Reason.TheVariants.{NoAgent}
 use Rattle.chi_copies.proofs.Finite.{flip}
 use Rattle.chi_copies.proofs.Refusals.{first, kept_not, skip}
@@ -24,7 +24,7 @@ returns-in-Ok-clause-after c = c.loosen.ensures.after ∙ ap (loose c.args.flit.
 
 pub returns-in-Ok-clause-moments : goal.returns-in-Ok-clause-moments
 returns-in-Ok-clause-moments c = λ n. ap (λ s. shown_at s n) c.loosen.ensures.shown
-    ∙ shown_is c.give.new.self (observed c.args.self.now) (Down c.args.flit) c.args.self.now.shown c.shown_behind-self.result n c.give.ensures.after c.give.ensures.shown (c.shown_behind-self.ensures n)
+    ∙ shown_is c.give.new.self (observed c.args.self.now) (Down c.args.flit) None c.args.self.now.shown c.shown_behind-self.result n c.give.ensures.after c.give.ensures.shown refl (c.shown_behind-self.ensures n)
 
 pub returns-then-flit-ge32-clause-why : goal.returns-then-flit-ge32-clause-why
 returns-then-flit-ge32-clause-why c = first (not (nat_lt c.args.flit.agent.0 32)) NoAgent _ (flip (nat_lt c.args.flit.agent.0 32) (high_is c.args.flit.agent.0 c.if-flit-ge32.true))
