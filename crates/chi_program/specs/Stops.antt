@@ -65,6 +65,7 @@ merge_end false reached least = cover_end None reached least
 abbrev pub explain_end : TraceOutcome → End
 explain_end (outcomes.Explained totals) = ends.Done
 explain_end (outcomes.Incomplete totals) = ends.Incomplete
+explain_end (outcomes.Partly totals) = ends.Few
 explain_end outcomes.Nothing = ends.Nothing
 explain_end (outcomes.Faulty stop) = ends.Unexplained
 explain_end (outcomes.Malformed fault) = ends.Malformed
@@ -96,7 +97,7 @@ run_status (Err stop) = stop_status stop
 
 -- the statuses that the program can end with: all went well, a faulty file or a device that failed, a script that
 -- didn't finish or a file that wasn't drawn, want of memory, bad arguments, an answer that differs, a flit that isn't
--- explained or taken, something open at the end of a trace, nothing that was compared or shown, and fewer cells than asked for
+-- explained or taken, something open at the end of a trace, nothing that was compared or shown, and less than was asked for
 abbrev pub statuses : List ℕ
 statuses = 0 ∷ 1 ∷ 2 ∷ 3 ∷ 4 ∷ 5 ∷ 6 ∷ 7 ∷ 8 ∷ 9 ∷ []
 

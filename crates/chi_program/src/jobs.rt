@@ -36,8 +36,8 @@ pub enum Job<'a> {
         /// The rows that are shown; all where they aren't given.
         rows: RowRange,
     },
-    /// `explain FILE [--types two|four|any] [--stores hidden|listed] [--early-grants] [--complete] [--line ADDR]`: holds
-    /// the trace at this path against the model.
+    /// `explain FILE [--types two|four|any] [--stores hidden|listed] [--early-grants] [--complete]
+    /// [--unjudged refused|allowed] [--line ADDR]`: holds the trace at this path against the model.
     Explain {
         path: &'a str,
         /// Which types of credit it has; those of profile `Two` where it isn't given.
@@ -48,6 +48,8 @@ pub enum Job<'a> {
         early_grants: bool,
         /// Whether nothing may be open at its end.
         complete: bool,
+        /// Whether all of it has to be judged.
+        judged: bool,
         /// The address of the line whose explanation is written as a check file, where one is given.
         only: Option<Address>,
     },
@@ -221,7 +223,7 @@ const COMPLETE: &str = "complete";
 /// The option that says how many flits of a line are told with a fault.
 const CONTEXT: &str = "context";
 
-/// The option that says whether flits may be left unjudged.
+/// The option that says whether some of a trace may be left unjudged.
 const UNJUDGED: &str = "unjudged";
 
 /// The option that says which opcodes a trace may have.
@@ -295,6 +297,7 @@ fn explain_command<'a>(alloc: Global) -> Result<Command<'a>, AllocError> {
         .arg(option(alloc, STORES))?
         .arg(flag(alloc, EARLY_GRANTS))?
         .arg(flag(alloc, COMPLETE))?
+        .arg(option(alloc, UNJUDGED))?
         .arg(option(alloc, LINE))
 }
 
@@ -441,6 +444,7 @@ fn read_explain<'a>(matches: &ArgMatches<'a>) -> Option<Job<'a>> {
     let stores = stores(text_of(matches, STORES))?;
     let early_grants = is_given(text_of(matches, EARLY_GRANTS));
     let complete = is_given(text_of(matches, COMPLETE));
+    let judged = judged(text_of(matches, UNJUDGED))?;
     let only = address(text_of(matches, LINE))?;
     Some(Job::Explain {
         path,
@@ -448,6 +452,7 @@ fn read_explain<'a>(matches: &ArgMatches<'a>) -> Option<Job<'a>> {
         stores,
         early_grants,
         complete,
+        judged,
         only,
     })
 }

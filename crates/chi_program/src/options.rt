@@ -235,7 +235,7 @@ pub fn data_listing(value: Option<&str>) -> Option<Listing> {
     }
 }
 
-/// Whether each flit, load and store has to be judged where `--unjudged` has this value: so it is where it isn't given, and
+/// Whether all of a trace has to be judged where `--unjudged` has this value: so it is where it isn't given, and
 /// `None` where the value is neither `refused` nor `allowed`.
 /// Source: `docs/FORMATS.md`, "The program".
 pub fn judged(value: Option<&str>) -> Option<bool> {

@@ -91,6 +91,7 @@ fn work<R: Files + AllocGlobal + Print + Eprint + Threads + Wait + Clock + Sync>
             stores,
             early_grants,
             complete,
+            judged,
             only,
         } => {
             let options = Options {
@@ -98,8 +99,12 @@ fn work<R: Files + AllocGlobal + Print + Eprint + Threads + Wait + Clock + Sync>
                 early_grants,
                 stores,
             };
-            let ending = ending_of(complete);
-            Ok(explain_file(rt, path, options, Asked { ending, only })?)
+            let asked = Asked {
+                ending: ending_of(complete),
+                judged,
+                only,
+            };
+            Ok(explain_file(rt, path, options, asked)?)
         }
         Job::Observe {
             path,

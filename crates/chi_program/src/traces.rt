@@ -46,6 +46,7 @@ fn explain_end(outcome: TraceOutcome) -> End
     match outcome {
         TraceOutcome::Explained(_) => End::Done,
         TraceOutcome::Incomplete(_) => End::Incomplete,
+        TraceOutcome::Partly(_) => End::Few,
         TraceOutcome::Nothing => End::Nothing,
         TraceOutcome::Faulty(_) => End::Unexplained,
         TraceOutcome::Malformed(_) => End::Malformed,

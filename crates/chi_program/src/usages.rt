@@ -81,7 +81,7 @@ fn all_usage() -> &'static str {
      chihome check FILE.. [--tap]\n\
      chihome chart FILE [--line L] [--rows A-B]\n\
      chihome storm FILE [--seed N] [--turns N]\n\
-     chihome explain FILE [--types two|four|any] [--stores hidden|listed] [--early-grants] [--complete] [--line ADDR]\n\
+     chihome explain FILE [--types two|four|any] [--stores hidden|listed] [--early-grants] [--complete] [--unjudged refused|allowed] [--line ADDR]\n\
      chihome observe FILE [--types two|four|any] [--stores hidden|listed] [--start empty|unknown] [--seen requesters|home] [--early-grants] [--complete] [--unjudged refused|allowed] [--opcodes issue-b|any] [--data listed|none] [--context N] [--progress]\n\
      chihome cover FILE.. [--missing] [--json] [--tsv] [--merge] [--at-least N]\n\
      chihome draw [--seed N] --commands M [--wild P] [--weights FILE] [--kinds LIST] [--drain] HEADER\n\
@@ -124,12 +124,13 @@ fn storm_usage() -> &'static str {
 
 /// How `explain` is used.
 fn explain_usage() -> &'static str {
-    "chihome explain FILE [--types two|four|any] [--stores hidden|listed] [--early-grants] [--complete] [--line ADDR]\n\
+    "chihome explain FILE [--types two|four|any] [--stores hidden|listed] [--early-grants] [--complete] [--unjudged refused|allowed] [--line ADDR]\n\
      Holds a trace against the model.\n\
      \x20 --types T            two or four: its home has so many types of credit; any: a RetryAck may name any type; two if it isn't given\n\
      \x20 --stores S           hidden: the trace may lack stores; listed: it has every store; hidden if it isn't given\n\
      \x20 --early-grants       a PCrdGrant may stand before the RetryAck that it is for\n\
      \x20 --complete           status 7 if something is outstanding at its end\n\
+     \x20 --unjudged U         refused: status 9 if its last line has no line end, and so isn't judged; allowed: that is no fault; refused if it isn't given\n\
      \x20 --line ADDR          writes the explanation of the cache line at ADDR (hexadecimal) as a check file\n\
      Example: chihome explain run.trace --line 1040 > line.check\n"
 }

@@ -46,6 +46,7 @@ const WAITING_TOTALS: TraceTotals = TraceTotals {
     accesses: 1,
     actions: 6,
     lines: 1,
+    cut: None,
 };
 
 const READ_TOTALS: TraceTotals = TraceTotals {
@@ -53,6 +54,7 @@ const READ_TOTALS: TraceTotals = TraceTotals {
     accesses: 1,
     actions: 7,
     lines: 1,
+    cut: None,
 };
 
 const TOLD: [Told; 11] = [
@@ -174,6 +176,7 @@ fn is_wanted(outcome: TraceOutcome, wanted: &Wanted) -> bool {
 fn is_told(alloc: Global, options: Options, told: &Told) -> bool {
     let asked = Asked {
         ending: told.ending,
+        judged: true,
         only: told.only.map(|address| Address(address)),
     };
     match report_on(alloc, told.trace, options, asked) {

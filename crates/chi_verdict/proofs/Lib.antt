@@ -2,6 +2,7 @@ mod ClosingLemmas
 mod LineLemmas
 mod SortLemmas
 mod ReadingLemmas
+mod TraceLemmas
 mod VerdictLemmas
 mod UnseenLemmas
 mod WritingLemmas

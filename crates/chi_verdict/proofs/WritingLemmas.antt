@@ -4,12 +4,12 @@ use Rattle.chi_script.specs.Devices.{AppendsFront}
 use Rattle.chi_script.specs.declared.faults.Fault.{Fault}
 use Rattle.chi_script.specs.declared.faults.Fault.TheVariants as faults
 use Rattle.chi_trace.specs.declared.faults.TraceFault.{TraceFault}
-use Rattle.chi_trace.specs.declared.flits.Seen.{Seen}
 use Rattle.chi_resolution.specs.declared.resolution.Options.{Options}
 use Rattle.chi_verdict.specs.declared.asked.Asked.{Asked}
 use Rattle.chi_verdict.specs.declared.reports.TraceOutcome.{TraceOutcome}
 use Rattle.chi_verdict.specs.declared.reports.TraceOutcome.TheVariants.{Malformed}
 use Rattle.chi_verdict.specs.Verdicts.{AtFailedWrite, IsReport, IsReportFront, IsReportOn, IsReportWritten, IsUnreported, KeepsUnlessWritten, is_malformed}
+use Rattle.chi_verdict.specs.Traces.{Trace}
 
 -- the report that is given is the one that was made
 pub given : {R E : Type 0} (P : R → Type 0) (report : R) (r : Result R E) → P report → IfOk r (λ x. x ≡ report) → IfOk r P
@@ -47,8 +47,8 @@ pub silent : {R : Type 0} (options : Options) (asked : Asked) (left old new : Op
     → OnOk r (IsReportWritten outcome old new text) → OnErr r (is_malformed outcome ≡ false) → KeepsUnlessWritten left old new
 silent options asked None old new outcome text r told written wellformed = tt
 silent options asked (Some file) old new outcome text (Ok x) told written wellformed = λ fault faulty.
-    let is = subst (λ (read : Result (List Seen) TraceFault). IsReportOn options asked read outcome text) faulty told in
+    let is = subst (λ (read : Result Trace TraceFault). IsReportOn options asked read outcome text) faulty told in
     subst (λ (o : TraceOutcome). IsReportWritten o old new text) is.0 written
 silent options asked (Some file) old new outcome text (Err e) told written wellformed = λ fault faulty.
-    let is = subst (λ (read : Result (List Seen) TraceFault). IsReportOn options asked read outcome text) faulty told in
+    let is = subst (λ (read : Result Trace TraceFault). IsReportOn options asked read outcome text) faulty told in
     absurd (not_malformed outcome fault is.0 wellformed)

@@ -24,5 +24,5 @@ pub record AreCounts (seen : List Seen) (counts : Counts) : Type 0 where
 -- one more is counted
 abbrev pub counted : Flit → Counts → Counts
 counted flit counts =
-    if is_access flit then record { all = counts.all + 1; flits = counts.flits; accesses = counts.accesses + 1 }
-    else record { all = counts.all + 1; flits = counts.flits + 1; accesses = counts.accesses }
+    if is_access flit then record { all = counts.all + 1; flits = counts.flits; accesses = counts.accesses + 1; cut = counts.cut }
+    else record { all = counts.all + 1; flits = counts.flits + 1; accesses = counts.accesses; cut = counts.cut }

@@ -1,5 +1,5 @@
 -- What is open where a trace ends, and what is told of one that is explained (docs/TRACES.md, "What is printed").
-use Rattle.std.specs.Prelude.{ℕ, ◌||◌, ◌==◌, Bool, true, false, not, List, length, nat_lt, Option, Some, None, Result, Ok, Err}
+use Rattle.std.specs.Prelude.{ℕ, ◌||◌, ◌&&◌, ◌==◌, Bool, true, false, not, List, length, nat_lt, Option, Some, None, Result, Ok, Err, if◌then◌else◌, is_some}
 use Rattle.std.specs.List.{list_any}
 use Rattle.chi_trace.specs.declared.fields.Address.{Address}
 use Rattle.chi_trace.specs.declared.flits.Seen.{Seen}
@@ -9,10 +9,11 @@ use Rattle.chi_resolution.specs.declared.beats.OpenData.{OpenData}
 use Rattle.chi_resolution.specs.declared.ids.OpenId.{OpenId}
 use Rattle.chi_resolution.specs.declared.ledger.CreditLedger.{CreditLedger}
 use Rattle.chi_resolution.specs.declared.lines.Resolved.{Resolved}
+use Rattle.chi_verdict.specs.declared.asked.Asked.{Asked}
 use Rattle.chi_verdict.specs.declared.asked.Ending.{Ending}
 use Rattle.chi_verdict.specs.declared.asked.Ending.TheVariants.{Any, Complete}
 use Rattle.chi_verdict.specs.declared.reports.TraceOutcome.{TraceOutcome}
-use Rattle.chi_verdict.specs.declared.reports.TraceOutcome.TheVariants.{Explained, Incomplete, Nothing, Faulty}
+use Rattle.chi_verdict.specs.declared.reports.TraceOutcome.TheVariants.{Explained, Incomplete, Partly, Nothing, Faulty}
 use Rattle.chi_verdict.specs.declared.reports.TraceStop.{TraceStop}
 use Rattle.chi_verdict.specs.declared.reports.TraceTotals.{TraceTotals}
 use Rattle.chi_verdict.specs.Lines.{is_on_line}
@@ -34,14 +35,18 @@ is_nothing_of (Some address) count flits waiting = not (list_any (is_on_line (li
 abbrev pub is_nothing_there : Option Address → List Seen → List Resolved → List Resolved → Bool
 is_nothing_there only seen flits waiting = is_nothing_of only (length seen) flits waiting
 
--- what is told of a trace each of whose lines is explained: by whether anything may be open, whether it is, and whether
--- nothing was seen of what is asked for
-abbrev pub explained_outcome : Ending → Bool → Bool → TraceTotals → TraceOutcome
-explained_outcome ending is_open true totals = Nothing
-explained_outcome Any is_open false totals = Explained totals
-explained_outcome Complete true false totals = Incomplete totals
-explained_outcome Complete false false totals = Explained totals
+-- what is told of a trace each of whose lines is explained: by whether anything may be open, and whether it is; by whether all
+-- of it is to be judged, and whether it was; and by whether nothing was seen of what is asked for
+abbrev pub whole_outcome : Ending → Bool → TraceTotals → TraceOutcome
+whole_outcome Any is_open totals = Explained totals
+whole_outcome Complete true totals = Incomplete totals
+whole_outcome Complete false totals = Explained totals
 
-abbrev pub trace_outcome_of : Ending → Bool → Bool → Result TraceTotals TraceStop → TraceOutcome
-trace_outcome_of ending is_open nothing (Ok totals) = explained_outcome ending is_open nothing totals
-trace_outcome_of ending is_open nothing (Err stop) = Faulty stop
+-- what isn't read comes before what is open
+abbrev pub explained_outcome : Asked → Bool → Bool → TraceTotals → TraceOutcome
+explained_outcome asked is_open true totals = Nothing
+explained_outcome asked is_open false totals = if asked.judged && is_some totals.cut then Partly totals else whole_outcome asked.ending is_open totals
+
+abbrev pub trace_outcome_of : Asked → Bool → Bool → Result TraceTotals TraceStop → TraceOutcome
+trace_outcome_of asked is_open nothing (Ok totals) = explained_outcome asked is_open nothing totals
+trace_outcome_of asked is_open nothing (Err stop) = Faulty stop

@@ -2,7 +2,9 @@ pub mod Closing
 pub mod Counts
 pub mod Ending
 pub mod Lines
+pub mod Outstanding
 pub mod Texts
+pub mod Traces
 pub mod Readings
 pub mod Unseen
 pub mod Verdicts

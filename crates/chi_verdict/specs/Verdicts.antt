@@ -8,10 +8,8 @@ use Rattle.chi_script.specs.declared.faults.Fault.{Fault}
 use Rattle.chi_script.specs.declared.faults.Fault.TheVariants as faults
 use Rattle.chi_slice.specs.Words.{four_types, two_types, Sizes}
 use Rattle.chi_explain.specs.declared.observed.StoreListing.{StoreListing}
-use Rattle.chi_trace.specs.Files.{trace_of}
 use Rattle.chi_trace.specs.declared.faults.TraceFault.{TraceFault}
 use Rattle.chi_trace.specs.declared.fields.Address.{Address}
-use Rattle.chi_trace.specs.declared.flits.Seen.{Seen}
 use Rattle.chi_resolution.specs.Tables.{Open}
 use Rattle.chi_resolution.specs.Resolution.{resolution_of, IdOutcome}
 use Rattle.chi_resolution.specs.declared.beats.OpenData.{OpenData}
@@ -21,7 +19,7 @@ use Rattle.chi_resolution.specs.declared.lines.Resolved.{Resolved}
 use Rattle.chi_resolution.specs.declared.reasons.IdFault.{IdFault}
 use Rattle.chi_resolution.specs.declared.resolution.Options.{Options}
 use Rattle.chi_verdict.specs.declared.reports.TraceOutcome.{TraceOutcome}
-use Rattle.chi_verdict.specs.declared.reports.TraceOutcome.TheVariants.{Explained, Incomplete, Nothing, Faulty, Malformed}
+use Rattle.chi_verdict.specs.declared.reports.TraceOutcome.TheVariants.{Explained, Incomplete, Partly, Nothing, Faulty, Malformed}
 use Rattle.chi_verdict.specs.declared.reports.TraceStop.{TraceStop}
 use Rattle.chi_verdict.specs.declared.reports.TraceStop.TheVariants.{Ids, Flit, Undone}
 use Rattle.chi_verdict.specs.declared.reports.TraceTotals.{TraceTotals}
@@ -31,8 +29,9 @@ use Rattle.chi_verdict.specs.Closing.{closed}
 use Rattle.chi_verdict.specs.Counts.{AreCounts}
 use Rattle.chi_verdict.specs.Ending.{is_anything_open, is_nothing_there, trace_outcome_of}
 use Rattle.chi_verdict.specs.Lines.{AreLinesExplained, IsLineFault}
-use Rattle.chi_trace.specs.Malformed.{malformed_front}
-use Rattle.chi_verdict.specs.Texts.{BeginsWith, IsOutcomeText}
+use Rattle.chi_verdict.specs.Outstanding.{AreInOrder, Outstanding, outstanding_behind}
+use Rattle.chi_verdict.specs.Texts.{BeginsWith, IsOutcomeText, fault_front}
+use Rattle.chi_verdict.specs.Traces.{Trace, trace_in}
 use Rattle.chi_verdict.specs.Unseen.{AreFilled}
 
 -- a node of one line with eight agents, whose journal keeps no records and has no end
@@ -60,6 +59,7 @@ pub record IsAllExplained (config : Sizes) (stores : StoreListing) (counts : Cou
   pub allowed : fault ≡ None
   pub flits : totals.flits ≡ counts.flits
   pub accesses : totals.accesses ≡ counts.accesses
+  pub cut : totals.cut ≡ counts.cut
   pub whole : List Resolved
   pub filled : AreFilled items.unfinished (closed items.flits items.waiting) whole
   pub lines : AreLinesExplained config stores whole totals.actions totals.lines
@@ -94,30 +94,34 @@ abbrev pub names_flits : Result TraceTotals TraceStop → Option Address → Boo
 names_flits judged only = is_err judged || is_some only
 
 -- what is asked of a trace that was judged so
-pub record IsVerdictOf (options : Options) (asked : Asked) (seen : List Seen) (resolved : IdOutcome) (outcome : TraceOutcome) : Type 0 where
+pub record IsVerdictOf (options : Options) (asked : Asked) (trace : Trace) (resolved : IdOutcome) (outcome : TraceOutcome) : Type 0 where
   pub counts : Counts
-  pub counted : AreCounts seen counts
+  pub counted : AreCounts trace.seen counts
+  pub cut : counts.cut ≡ trace.cut
   pub judged : Result TraceTotals TraceStop
   pub holds : IsTraceJudged (verdict_sizes options.types) options.stores counts resolved.fault (items_of_table resolved.progress.table) judged
-  pub told : outcome ≡ trace_outcome_of asked.ending (is_table_open resolved.progress.table) (is_nothing_there asked.only seen resolved.progress.table.flits resolved.progress.table.waiting) judged
+  pub told : outcome ≡ trace_outcome_of asked (is_table_open resolved.progress.table) (is_nothing_there asked.only trace.seen resolved.progress.table.flits resolved.progress.table.waiting) judged
 
--- what comes of the flits of a trace, and is told of them
-pub record IsFlitsReport (options : Options) (asked : Asked) (seen : List Seen) (outcome : TraceOutcome) (text : List ℕ) : Type 0 where
-  pub verdict : IsVerdictOf options asked seen (resolution_of options seen) outcome
-  pub told : IsOutcomeText seen asked.only outcome text
+-- what comes of a trace, and is told of it
+pub record IsFlitsReport (options : Options) (asked : Asked) (trace : Trace) (outcome : TraceOutcome) (text : List ℕ) : Type 0 where
+  pub verdict : IsVerdictOf options asked trace (resolution_of options trace.seen) outcome
+  pub these : Outstanding
+  pub ordered : AreInOrder (outstanding_behind (resolution_of options trace.seen).progress) these
+  pub told : IsOutcomeText trace.seen trace.cut these asked.only outcome text
 
--- what comes of a file, by what the grammar reads
-abbrev pub IsReportOn : Options → Asked → Result (List Seen) TraceFault → TraceOutcome → List ℕ → Type 0
-IsReportOn options asked (Ok seen) outcome text = IsFlitsReport options asked seen outcome text
-IsReportOn options asked (Err fault) outcome text = (outcome ≡ Malformed fault) × BeginsWith (malformed_front fault) text
+-- what comes of a file, by what is read of it
+abbrev pub IsReportOn : Options → Asked → Result Trace TraceFault → TraceOutcome → List ℕ → Type 0
+IsReportOn options asked (Ok trace) outcome text = IsFlitsReport options asked trace outcome text
+IsReportOn options asked (Err fault) outcome text = (outcome ≡ Malformed fault) × BeginsWith (fault_front fault) text
 
 abbrev pub IsReport : Options → Asked → List ℕ → TraceOutcome → List ℕ → Type 0
-IsReport options asked file outcome text = IsReportOn options asked (trace_of file) outcome text
+IsReport options asked file outcome text = IsReportOn options asked (trace_in file) outcome text
 
 -- a report was written, but where the file is malformed: then nothing was
 abbrev pub IsReportWritten : TraceOutcome → Option (List ℕ) → Option (List ℕ) → List ℕ → Type 0
 IsReportWritten (Explained totals) old new text = Appends old new text
 IsReportWritten (Incomplete totals) old new text = Appends old new text
+IsReportWritten (Partly totals) old new text = Appends old new text
 IsReportWritten Nothing old new text = Appends old new text
 IsReportWritten (Faulty stop) old new text = Appends old new text
 IsReportWritten (Malformed fault) old new text = Keeps old new
@@ -150,4 +154,4 @@ IsUnreported read read' wrote wrote' faults.TooLarge = ⊥
 
 -- where the file is malformed nothing is written
 abbrev pub KeepsUnlessWritten : Option (List ℕ) → Option (List ℕ) → Option (List ℕ) → Type 0
-KeepsUnlessWritten input old new = IfSome input (λ file. (fault : TraceFault) → trace_of file ≡ Err fault → Keeps old new)
+KeepsUnlessWritten input old new = IfSome input (λ file. (fault : TraceFault) → trace_in file ≡ Err fault → Keeps old new)

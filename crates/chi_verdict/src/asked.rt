@@ -24,6 +24,8 @@ pub enum Ending {
 #[derive(Clone, Copy, Debug, PartialEq, Eq)]
 pub struct Asked {
     pub ending: Ending,
+    /// Whether all of it has to be judged.
+    pub judged: bool,
     /// The address whose line alone is explained, as a check file.
     pub only: Option<Address>,
 }

@@ -10,7 +10,7 @@ use chi_resolution::Resolved;
 use std::alloc::{AllocError, Allocator};
 
 /// Whose load or store it is.
-fn waiting_agent(seen: &Observed) -> Agent
+pub(crate) fn waiting_agent(seen: &Observed) -> Agent
     ensures { result ≡ waiting_agent seen.now }
 {
     match seen {

@@ -91,6 +91,7 @@ fn write_report<A: Allocator, O: Output>(
         TraceOutcome::Malformed(_) => Ok(report),
         TraceOutcome::Explained(_)
         | TraceOutcome::Incomplete(_)
+        | TraceOutcome::Partly(_)
         | TraceOutcome::Nothing
         | TraceOutcome::Faulty(_) => match output.write_all(report.text.as_bytes()) {
             Ok(()) => Ok(report),

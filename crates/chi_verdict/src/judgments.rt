@@ -4,6 +4,7 @@ ghost use Rattle.std.specs.Prelude.{◌≡◌, IfErr, IfOk, IfSome, List, None};
 ghost use Rattle.chi_explain.specs.declared.observed.StoreListing.{StoreListing};
 ghost use Rattle.chi_resolution.specs.declared.lines.Resolved.{Resolved};
 ghost use Rattle.chi_slice.specs.Words.{Sizes};
+ghost use Rattle.chi_verdict.specs.Outstanding.{outstanding_in};
 ghost use Rattle.chi_verdict.specs.Lines.{IsLineFault, IsObstacle};
 ghost use Rattle.chi_verdict.specs.Verdicts.{IsStopAmong, IsTraceJudged, items_with};
 
@@ -19,8 +20,8 @@ use chi_resolution::{CacheLine, IdFault, Resolution};
 use chi_slice::Config;
 use std::alloc::Allocator;
 
-/// Explains what a resolution of a trace has, whose order is another one then: how much was explained, or what is told
-/// as the first that isn't.
+/// Explains what a resolution of a trace has, whose order is another one then, but for what is open: how much was explained,
+/// or what is told as the first that isn't.
 pub(crate) fn judge<A: Allocator + Copy>(
     alloc: A,
     config: &Config,
@@ -28,10 +29,11 @@ pub(crate) fn judge<A: Allocator + Copy>(
     counts: Counts,
     resolution: &mut Resolution<A>,
 ) -> Result<Result<TraceTotals, TraceStop>, NoMemory>
-    ensures { IfOk result (λ judged.
+    ensures judged { IfOk result (λ judged.
         IsTraceJudged config.now stores counts resolution.old.fault
         (items_with resolution.old.flits.items resolution.old.unfinished.items
         resolution.old.waiting.items) judged) }
+    ensures kept { outstanding_in resolution.new ≡ outstanding_in resolution.old }
 {
     let fault = resolution.fault;
     let unfinished = resolution.unfinished.as_slice();
@@ -55,6 +57,7 @@ fn total_of(
     ensures allowed { IfOk result (λ total. fault ≡ None) }
     ensures flits { IfOk result (λ total. total.flits ≡ counts.flits) }
     ensures accesses { IfOk result (λ total. total.accesses ≡ counts.accesses) }
+    ensures cut { IfOk result (λ total. total.cut ≡ counts.cut) }
     ensures actions { IfOk result (λ total. total.actions ≡ totals.actions) }
     ensures lines { IfOk result (λ total. total.lines ≡ totals.lines) }
     ensures err { (config : Sizes) (stores : StoreListing) (whole : List Resolved)
@@ -66,6 +69,7 @@ fn total_of(
             accesses: counts.accesses,
             actions: totals.actions,
             lines: totals.lines,
+            cut: counts.cut,
         }),
         Some(fault) => Err(TraceStop::Ids(fault)),
     }

@@ -20,6 +20,7 @@ mod outcome_texts;
 mod readings;
 mod reports;
 mod stop_texts;
+mod traces;
 mod unseen;
 
 pub use asked::{Asked, Ending};

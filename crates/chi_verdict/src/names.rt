@@ -1,6 +1,7 @@
-//! How nodes, lines and flits of a trace are written. No clause says these texts: they are tested.
+//! How nodes, lines and flits of a trace are written. No clause says how flits are: that is tested.
 
-ghost use Rattle.std.specs.Prelude.{◌≡◌, IfOk, IsOk, OnOk, string_bytes};
+ghost use Rattle.std.specs.Prelude.{◌≡◌, IfOk, IsOk, OnOk, Some, string_bytes};
+ghost use Rattle.chi_verdict.specs.Outstanding.{address_of, hexadecimal, line_name};
 ghost use Rattle.chi_verdict.specs.Texts.{BeginsWith};
 
 use chi_explain::Observed;
@@ -31,6 +32,8 @@ struct MessageName(Msg);
 pub(crate) struct ObservedName(pub Observed);
 
 impl fmt::Display for NodeName {
+    ghost output = { λ name. Some (hexadecimal name.0.0) };
+
     fn fmt<W: fmt::Write>(&self, f: &mut fmt::Formatter<W>) -> fmt::Result {
         let number = self.0.0;
         write!(f, "{number:x}")
@@ -38,10 +41,19 @@ impl fmt::Display for NodeName {
 }
 
 impl fmt::Display for LineName {
+    ghost output = { λ name. Some (line_name name.0) };
+
     fn fmt<W: fmt::Write>(&self, f: &mut fmt::Formatter<W>) -> fmt::Result {
-        let address = u128::from(self.0.0) * 64;
+        let address = address_of(self.0);
         write!(f, "{address:x}")
     }
+}
+
+/// The address of a line.
+fn address_of(line: CacheLine) -> u64
+    ensures { result ≡ address_of line }
+{
+    line.0.saturating_mul(64)
 }
 
 impl fmt::Display for SeenName<'_> {

@@ -1,15 +1,15 @@
-//! The lines on how much is explained, and on nothing that was seen; how a line on what isn't explained begins.
+//! The lines on how much is explained, what isn't read, and nothing that was seen; how a line on what isn't explained begins.
 
-ghost use Rattle.std.specs.Prelude.{◌≡◌, IfOk, Some, codes, string_bytes};
+ghost use Rattle.std.specs.Prelude.{◌≡◌, ◌++◌, IfOk, OnOk, Some, string_bytes};
 ghost use Rattle.std.specs.List.{slice_get};
-ghost use Rattle.chi_verdict.specs.Texts.{BeginsWith, access_text, explained_line, flit_number_of, numbered, stop_front};
+ghost use Rattle.chi_verdict.specs.Texts.{BeginsWith, access_text, cut_comment, cut_line, explained_line, flit_number_of, nothing_front, numbered, stop_front};
 
 use crate::names::{LineName, joined, kept};
 use crate::reports::{TraceStop, TraceTotals};
 use chi_flit::NoMemory;
 use chi_resolution::line_of;
 use chi_trace::{Address, Seen};
-use std::alloc::Allocator;
+use std::alloc::{AllocError, Allocator};
 use std::fmt;
 use std::fmt::Write;
 
@@ -29,21 +29,50 @@ impl fmt::Display for AccessCount {
     }
 }
 
-/// The line on how much is explained.
-pub(crate) fn explained_line<A: Allocator>(
-    alloc: A,
+/// Puts a last line that isn't read behind the text.
+pub(crate) fn write_cut<A: Allocator>(
+    text: &mut String<A>,
+    cut: Option<usize>,
+) -> Result<(), AllocError>
+    ensures { OnOk result (string_bytes text.new ≡ string_bytes text.old ++ cut_line cut) }
+{
+    match cut {
+        None => Ok(()),
+        Some(number) => writeln!(
+            text,
+            "not judged: trace line {number}, the last, which has no line end"
+        ),
+    }
+}
+
+/// The same in a check file, in which it is a comment.
+pub(crate) fn cut_comment<A: Allocator>(alloc: A, cut: Option<usize>) -> Result<String<A>, NoMemory>
+    ensures { IfOk result (λ text. string_bytes text ≡ cut_comment cut) }
+{
+    let mut text = String::new(alloc);
+    match cut {
+        None => Ok(text),
+        Some(_) => {
+            text.push_str("# ")?;
+            write_cut(&mut text, cut)?;
+            Ok(text)
+        }
+    }
+}
+
+/// Puts the line on how much is explained behind the text.
+pub(crate) fn write_explained<A: Allocator>(
+    text: &mut String<A>,
     totals: TraceTotals,
-) -> Result<String<A>, NoMemory>
-    ensures { IfOk result (λ text. string_bytes text ≡ explained_line totals) }
+) -> Result<(), AllocError>
+    ensures { OnOk result (string_bytes text.new ≡ string_bytes text.old ++ explained_line totals) }
 {
     let (flits, actions, lines) = (totals.flits, totals.actions, totals.lines);
     let accesses = AccessCount(totals.accesses);
-    let mut text = String::new(alloc);
-    kept(writeln!(
+    writeln!(
         text,
         "explained {flits} flits{accesses} by {actions} actions on {lines} lines"
-    ))?;
-    Ok(text)
+    )
 }
 
 /// The number of the line of the file that the flit at this place of the trace is.
@@ -83,11 +112,12 @@ pub(crate) fn stop_front<A: Allocator + Copy>(
     Ok(text)
 }
 
-/// How the line on a trace that has nothing of what is asked for begins.
-fn nothing_front<A: Allocator>(alloc: A) -> Result<String<A>, NoMemory>
-    ensures { IfOk result (λ text. string_bytes text ≡ codes "no flit, load or store") }
+/// How the text on a trace that has nothing of what is asked for begins.
+fn nothing_front<A: Allocator>(alloc: A, cut: Option<usize>) -> Result<String<A>, NoMemory>
+    ensures { IfOk result (λ text. string_bytes text ≡ nothing_front cut) }
 {
     let mut text = String::new(alloc);
+    write_cut(&mut text, cut)?;
     kept(write!(text, "no flit, load or store"))?;
     Ok(text)
 }
@@ -105,15 +135,15 @@ fn nothing_rest<A: Allocator>(alloc: A, only: Option<Address>) -> Result<String<
     Ok(text)
 }
 
-/// The line on a trace that has nothing of what is asked for.
+/// What is told of a trace that has nothing of what is asked for.
 pub(crate) fn nothing_text<A: Allocator + Copy>(
     alloc: A,
+    cut: Option<usize>,
     only: Option<Address>,
 ) -> Result<String<A>, NoMemory>
-    ensures { IfOk result
-        (λ text. BeginsWith (codes "no flit, load or store") (string_bytes text)) }
+    ensures { IfOk result (λ text. BeginsWith (nothing_front cut) (string_bytes text)) }
 {
-    let front = nothing_front(alloc)?;
+    let front = nothing_front(alloc, cut)?;
     let rest = nothing_rest(alloc, only)?;
     joined(front, &rest)
 }

@@ -3,15 +3,16 @@
 ghost use Rattle.std.specs.Prelude.{◌≡◌, ◌≤◌, ◌+◌, IfOk, OnOk, length};
 ghost use Rattle.chi_script.specs.Files.{lines_of};
 ghost use Rattle.chi_trace.specs.Faults.{TraceGives};
-ghost use Rattle.chi_trace.specs.Files.{trace_flits, trace_of};
 ghost use Rattle.chi_resolution.specs.Resolution.{resolved_more};
 ghost use Rattle.chi_verdict.specs.Counts.{counted, is_access};
-ghost use Rattle.chi_verdict.specs.Readings.{IsReadAs, IsReadingOf, lines_read, nothing_read, read_line, read_more};
+ghost use Rattle.chi_verdict.specs.Readings.{IsReadAs, IsReadingOf, last_read, lines_read, nothing_read, read_line, read_more};
+ghost use Rattle.chi_verdict.specs.Traces.{trace_from, trace_in};
 
+use crate::traces::{cut_at, line_flit};
 use chi_flit::NoMemory;
 use chi_resolution::{IdFault, Options, Resolution, Resolver};
 use chi_script::first_line;
-use chi_trace::{Flit, MOST_BYTES, Seen, TraceFault, flit_in};
+use chi_trace::{Flit, MOST_BYTES, Seen, TraceFault};
 use std::alloc::Allocator;
 use std::marker::Model;
 
@@ -22,6 +23,8 @@ pub(crate) struct Counts {
     /// Those that are no loads and stores.
     pub flits: usize,
     pub accesses: usize,
+    /// The number of a last line that isn't read, as no line end follows it.
+    pub cut: Option<usize>,
 }
 
 /// A trace that was read.
@@ -75,6 +78,7 @@ impl Counts {
                 all,
                 flits: self.flits,
                 accesses,
+                cut: self.cut,
             });
         }
         let flits = one_more(self.flits)?;
@@ -82,6 +86,7 @@ impl Counts {
             all,
             flits,
             accesses: self.accesses,
+            cut: self.cut,
         })
     }
 }
@@ -97,6 +102,7 @@ impl<A: Allocator + Copy> Reader<A> {
                 all: 0,
                 flits: 0,
                 accesses: 0,
+                cut: None,
             },
             resolver,
             fault: None,
@@ -135,11 +141,19 @@ impl<A: Allocator> Reader<A> {
         ensures { TraceGives (λ _. self.new) result
             (read_line options number line.now self.old) }
     {
-        if let Some(seen) = flit_in(line, number)? {
+        if let Some(seen) = line_flit(line, number)? {
             if self.take(options, &seen).is_err() {
                 return Err(TraceFault::NoMemory);
             }
         }
+        Ok(())
+    }
+
+    /// Takes what stands behind the last line end, which would be the line of this number.
+    fn take_end(&mut self, last: &[u8], number: usize) -> Result<(), TraceFault>
+        ensures { TraceGives (λ _. self.new) result (last_read number last.now self.old) }
+    {
+        self.counts.cut = cut_at(last, number)?;
         Ok(())
     }
 }
@@ -175,11 +189,8 @@ fn read_lines<A: Allocator + Copy>(
         rest = after;
         number += 1;
     }
-    if rest.is_empty() {
-        Ok(reader)
-    } else {
-        Err(TraceFault::MissingNewline(number))
-    }
+    reader.take_end(rest, number)?;
+    Ok(reader)
 }
 
 /// The trace that these lines are.
@@ -189,7 +200,7 @@ fn resolved_lines<A: Allocator + Copy>(
     options: Options,
 ) -> Result<Reading<A>, TraceFault>
     requires { length bytes.now ≤ 67108864 }
-    ensures { IsReadAs options result (trace_flits 1 (lines_of bytes.now)) }
+    ensures { IsReadAs options result (trace_from 1 (lines_of bytes.now)) }
 {
     let reader = read_lines(alloc, bytes, options)?;
     match reader.ended(alloc) {
@@ -199,16 +210,18 @@ fn resolved_lines<A: Allocator + Copy>(
 }
 
 /// The trace that a file of these bytes is, resolved as it is read. The whole file is read: where a flit isn't allowed by
-/// the ids or the ledger, those behind it are counted.
+/// the ids or the ledger, those behind it are counted. A last line that no line end follows isn't read, and its number is
+/// kept.
 ///
-/// The faults are those of `read_trace`, in the same places.
-#[tactic(auto, unfolding(chi_trace::specs::Files::trace_of))]
+/// `TooLarge` where the file has more than `MOST_BYTES` bytes, before all else. Otherwise the first faulty line is told:
+/// `Gzip`, `LongLine`, `FewWords` or `BadWord`; a last line that no line end follows can be faulty by its bytes alone.
+#[tactic(auto, unfolding(crate::specs::Traces::trace_in))]
 pub(crate) fn read_resolved<A: Allocator + Copy>(
     alloc: A,
     bytes: &[u8],
     options: Options,
 ) -> Result<Reading<A>, TraceFault>
-    ensures { IsReadAs options result (trace_of bytes.now) }
+    ensures { IsReadAs options result (trace_in bytes.now) }
 {
     if bytes.len() > MOST_BYTES {
         return Err(TraceFault::TooLarge);

@@ -1,12 +1,11 @@
 //! The report on a trace, from the bytes of its file.
 
-ghost use Rattle.std.specs.Prelude.{◌≡◌, ◌≢◌, IfOk, List, Ok, Some, string_bytes, true};
-ghost use Rattle.chi_trace.specs.Files.{trace_of};
+ghost use Rattle.std.specs.Prelude.{◌≡◌, ◌≢◌, IfOk, Ok, OnOk, Some, string_bytes, true};
 ghost use Rattle.chi_trace.specs.declared.faults.TraceFault.TheVariants as faults;
-ghost use Rattle.chi_trace.specs.declared.flits.Seen.{Seen};
 ghost use Rattle.chi_verdict.specs.Readings.{IsReading};
-ghost use Rattle.chi_trace.specs.Malformed.{malformed_front};
-ghost use Rattle.chi_verdict.specs.Texts.{BeginsWith};
+ghost use Rattle.chi_verdict.specs.Outstanding.{AreInOrder, IsInOrder, data_place, id_place, outstanding_in};
+ghost use Rattle.chi_verdict.specs.Texts.{BeginsWith, fault_front};
+ghost use Rattle.chi_verdict.specs.Traces.{Trace, seen_of, trace_in};
 ghost use Rattle.chi_verdict.specs.Verdicts.{IsFlitsReport, IsReport, names_flits, verdict_sizes};
 ghost use Rattle.chi_verdict.specs.declared.reports.TraceOutcome.TheVariants as outcomes;
 
@@ -16,12 +15,13 @@ use crate::judgments::judge;
 use crate::lines::sort_items;
 use crate::malformed::malformed_text;
 use crate::readings::{Reading, read_resolved};
+use crate::traces::flits_in;
 use chi_flit::{NoMemory, Profile};
 use chi_monitor::LineFault;
-use chi_resolution::{CacheLine, IdFault, Options, Resolution, Types};
+use chi_resolution::{CacheLine, IdFault, OpenData, OpenId, Options, Resolution, Types};
 use chi_slice::Config;
-use chi_trace::{Address, Seen, TraceFault, read_trace};
-use std::alloc::Allocator;
+use chi_trace::{Address, Seen, TraceFault};
+use std::alloc::{AllocError, Allocator};
 
 /// How much of a trace is explained, by how many actions, and on how many lines.
 /// Source: `docs/TRACES.md`, "What is printed".
@@ -32,6 +32,8 @@ pub struct TraceTotals {
     pub accesses: usize,
     pub actions: u128,
     pub lines: usize,
+    /// The number of a last line that isn't read, as no line end follows it.
+    pub cut: Option<usize>,
 }
 
 /// What of a trace is told as the first that isn't explained. A flit, a load or a store is named by its place in the
@@ -55,6 +57,8 @@ pub enum TraceOutcome {
     Explained(TraceTotals),
     /// Each line is explained, and something is open at the end of a trace that is to be complete.
     Incomplete(TraceTotals),
+    /// Each line is explained, and a last line of a trace that is to be judged whole isn't read, as no line end follows it.
+    Partly(TraceTotals),
     /// The trace has no flit, load or store, or none of the line that is asked for.
     Nothing,
     /// Something isn't explained.
@@ -102,8 +106,8 @@ fn config_of(types: Types) -> Option<Config>
 }
 
 /// The report on the trace that a file of these bytes is: that all its lines are explained, and by how much; else what
-/// isn't first. Of a file that is no trace it is the first fault of the grammar. Where an address is asked for the text
-/// is the check file that explains its line, up to the first that isn't explained.
+/// isn't first. Of a file that is no trace it is its first fault. Where an address is asked for the text is the check file
+/// that explains its line, up to the first that isn't explained. A last line that no line end follows isn't read, and is told.
 ///
 /// `NoMemory` where memory runs out. That what is told as a fault of a line is one is a clause where its reason is
 /// settled, and else tested.
@@ -132,7 +136,7 @@ fn malformed<A: Allocator + Copy>(
     ensures outcome { IfOk result (λ report. report.outcome ≡ outcomes.Malformed fault) }
     ensures fault { IfOk result (λ _. fault ≢ faults.NoMemory) }
     ensures text { IfOk result
-        (λ report. BeginsWith (malformed_front fault) (string_bytes report.text)) }
+        (λ report. BeginsWith (fault_front fault) (string_bytes report.text)) }
 {
     let text = malformed_text(alloc, bytes, fault)?;
     let outcome = TraceOutcome::Malformed(fault);
@@ -147,9 +151,9 @@ fn report_on_reading<A: Allocator + Copy>(
     options: Options,
     asked: Asked,
 ) -> Result<TraceReport<A>, NoMemory>
-    ensures { IfOk result (λ report. (seen : List Seen) → trace_of bytes.now ≡ Ok seen
-        → IsReading options seen reading
-        → IsFlitsReport options asked seen report.outcome (string_bytes report.text)) }
+    ensures { IfOk result (λ report. (trace : Trace) → trace_in bytes.now ≡ Ok trace
+        → IsReading options trace reading
+        → IsFlitsReport options asked trace report.outcome (string_bytes report.text)) }
 {
     let config = match config_of(options.types) {
         Some(config) => config,
@@ -166,12 +170,10 @@ fn report_on_reading<A: Allocator + Copy>(
         &mut resolution,
     )?;
     let seen = flits_named(alloc, bytes, &judged, asked.only)?;
-    sort_open(&mut resolution)?;
-    if asked.only.is_some() {
-        sort_items(&mut resolution.flits)?;
-    }
+    sort_parts(&mut resolution, asked.only)?;
     let trace = JudgedTrace {
         seen: &seen,
+        cut: reading.counts.cut,
         profile: profile_of(options.types),
         stores: options.stores,
         config,
@@ -195,20 +197,45 @@ fn flits_named<A: Allocator + Copy>(
     only: Option<Address>,
 ) -> Result<Vec<Seen, A>, NoMemory>
     ensures { IfOk result (λ seen.
-        names_flits judged.now only ≡ true → trace_of bytes.now ≡ Ok seen.items) }
+        names_flits judged.now only ≡ true → seen_of (trace_in bytes.now) ≡ Ok seen.items) }
 {
     if !names_flits(judged, only) {
         return Ok(Vec::new(alloc));
     }
-    match read_trace(alloc, bytes) {
+    match flits_in(alloc, bytes) {
         Ok(seen) => Ok(seen),
         Err(_) => Err(NoMemory),
     }
 }
 
-/// Puts what is open in the order in which it was opened.
-fn sort_open<A: Allocator + Copy>(resolution: &mut Resolution<A>) -> Result<(), NoMemory> {
-    resolution.ids.sort_by_key(|id| id.place)?;
-    resolution.unfinished.sort_by_key(|data| data.place)?;
+/// Puts ids in the order in which they were opened.
+fn sort_ids<A: Allocator + Copy>(ids: &mut Vec<OpenId, A>) -> Result<(), AllocError>
+    ensures { OnOk result (IsInOrder id_place ids.old.items ids.new.items) }
+{
+    ids.sort_by_key(|id| id.place)?;
+    Ok(())
+}
+
+/// Puts data that lacks words in the order in which it was begun.
+fn sort_unfinished<A: Allocator + Copy>(unfinished: &mut Vec<OpenData, A>) -> Result<(), AllocError>
+    ensures { OnOk result (IsInOrder data_place unfinished.old.items unfinished.new.items) }
+{
+    unfinished.sort_by_key(|begun| begun.place)?;
+    Ok(())
+}
+
+/// Puts what is open in the order in which it was opened, and items in that of their lines where one is asked for.
+fn sort_parts<A: Allocator + Copy>(
+    resolution: &mut Resolution<A>,
+    only: Option<Address>,
+) -> Result<(), NoMemory>
+    ensures { OnOk result
+        (AreInOrder (outstanding_in resolution.old) (outstanding_in resolution.new)) }
+{
+    sort_ids(&mut resolution.ids)?;
+    sort_unfinished(&mut resolution.unfinished)?;
+    if only.is_some() {
+        sort_items(&mut resolution.flits)?;
+    }
     Ok(())
 }

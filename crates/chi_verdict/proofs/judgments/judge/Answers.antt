@@ -8,16 +8,16 @@ use Rattle.chi_verdict.specs.Verdicts.{IsStopAmong, items_with}
 use Rattle.chi_verdict.proofs.FaultLemmas.{judged_total}
 use Rattle.chi_verdict.proofs.judgments.judge.Goals as goal
 
-pub returns-in-Ok : goal.returns-in-Ok
-returns-in-Ok g c =
+pub returns-in-Ok-clause-judged : goal.returns-in-Ok-clause-judged
+returns-in-Ok-clause-judged g c =
     let whole : List Resolved = c.fill_data.new.items.items in
     let filled : AreFilled c.args.resolution.now.unfinished.items (closed c.args.resolution.now.flits.items c.args.resolution.now.waiting.items) whole = search rules in
     judged_total c.args.config.now c.args.stores c.args.counts c.args.resolution.now.fault (items_with c.args.resolution.now.flits.items c.args.resolution.now.unfinished.items c.args.resolution.now.waiting.items) whole
-    c.in-Ok.totals.actions c.in-Ok.totals.lines c.total_of.result filled c.in-Ok.ensures.explained c.total_of.ensures.allowed c.total_of.ensures.flits c.total_of.ensures.accesses c.total_of.ensures.actions c.total_of.ensures.lines
+    c.in-Ok.totals.actions c.in-Ok.totals.lines c.total_of.result filled c.in-Ok.ensures.explained c.total_of.ensures.allowed c.total_of.ensures.flits c.total_of.ensures.accesses c.total_of.ensures.cut c.total_of.ensures.actions c.total_of.ensures.lines
     (c.total_of.ensures.err c.args.config.now c.args.stores whole)
 
-pub returns-in-Some : goal.returns-in-Some
-returns-in-Some g c =
+pub returns-in-Some-clause-judged : goal.returns-in-Some-clause-judged
+returns-in-Some-clause-judged g c =
     let whole : List Resolved = c.fill_data.new.items.items in
     let filled : AreFilled c.args.resolution.now.unfinished.items (closed c.args.resolution.now.flits.items c.args.resolution.now.waiting.items) whole = search rules in (
       whole,
