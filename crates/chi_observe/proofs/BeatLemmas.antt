@@ -142,7 +142,7 @@ shows_nothing y f w =
 
 -- a line that is judged, but for its marks: the home has these words beside what else is told
 abbrev pub line_of : NodeId → Lacking → List ℕ → WatchedWords → Marked → LineState
-line_of h l v y m = record { home = h; aside = false; lacking = l; told = FromStart (homed v y); marks = m }
+line_of h l v y m = record { home = h; aside = false; why = None; lacking = l; told = FromStart (homed v y); marks = m }
 
 -- where stores may be hidden no store is kept
 abbrev pub hides : WatchedWords → Bool

@@ -10,3 +10,6 @@ pub mod CopyLemmas
 mod LastLemmas
 mod AnyBeats
 mod BeatLemmas
+mod LateLemmas
+mod CountLemmas
+mod TellLemmas

@@ -5,7 +5,8 @@ use Rattle.chi_trace.specs.declared.fields.NodeId.{NodeId}
 use Rattle.chi_observer.specs.declared.flits.Flit.{Flit}
 use Rattle.chi_observe.specs.Judges.{Before, Judged, Verdict, verdict}
 use Rattle.chi_observe.specs.Judges.Verdict.{Known, LeftOpen}
-use Rattle.chi_observe.specs.Lines.{IsNext, LineState, flit_next, is_passed, marked_next, next_by, put_aside, takes_flit}
+use Rattle.chi_observe.specs.LateReasons.{LateReason}
+use Rattle.chi_observe.specs.Lines.{IsNext, LineState, flit_next, is_passed, marked_next, left_open, next_by, takes_flit}
 
 taken_by : (aside same passed : Bool) → aside ≡ false → same ≡ true → passed ≡ true → (aside || (same && passed)) ≡ true
 taken_by aside same passed a s p = rw (a, s, p) refl
@@ -27,7 +28,7 @@ pub told_is : (before : Before) (old : LineState) (number : ℕ) (home : NodeId)
     → IsNext (takes_flit before old home number option) (flit_next before old number option) new
 told_is before old number home option flit told new is aside same judged after = next_is before old number home option flit (Known told) new is aside same judged refl after
 
-pub left_is : (before : Before) (old : LineState) (number : ℕ) (home : NodeId) (option : Option Flit) (flit : Flit) (new : LineState)
-    → option ≡ Some flit → old.aside ≡ false → (old.home.0 == home.0) ≡ true → LeftOpen ≡ verdict before number old.told flit → new ≡ put_aside old
+pub left_is : (before : Before) (old : LineState) (number : ℕ) (home : NodeId) (option : Option Flit) (flit : Flit) (why : LateReason) (new : LineState)
+    → option ≡ Some flit → old.aside ≡ false → (old.home.0 == home.0) ≡ true → LeftOpen why ≡ verdict before number old.told flit → new ≡ left_open why old
     → IsNext (takes_flit before old home number option) (flit_next before old number option) new
-left_is before old number home option flit new is aside same judged after = next_is before old number home option flit LeftOpen new is aside same judged refl after
+left_is before old number home option flit why new is aside same judged after = next_is before old number home option flit (LeftOpen why) new is aside same judged refl after

@@ -1,5 +1,5 @@
 -- What observe leaves, from what its parts leave.
-use Rattle.std.proofs.Common.{◌≡◌, ◌≢◌, ◌+◌, ◌++◌, ℕ, Bool, false, List, Option, Some, None, Result, Ok, Err, IfErr, IfOk, IfSome, OnErr, OnOk, subst, sym, ap, ◌∙◌}
+use Rattle.std.proofs.Common.{◌≡◌, ◌≢◌, ◌+◌, ℕ, false, List, Option, Some, None, Result, Ok, Err, IfErr, IfOk, IfSome, OnErr, OnOk, subst, sym, ap, ◌∙◌}
 use Rattle.chi_script.specs.Devices.{AppendsFront}
 use Rattle.chi_script.specs.Files.{lines_of}
 use Rattle.chi_script.specs.declared.faults.Fault.{Fault}
@@ -10,11 +10,8 @@ use Rattle.chi_observe.specs.declared.steps.WatchOptions.{WatchOptions}
 use Rattle.chi_observe.specs.declared.stream.TextStop.{TextStop}
 use Rattle.chi_observe.specs.declared.stream.TextStop.TheVariants as texts
 use Rattle.chi_observe.specs.declared.stream.TraceStop.{TraceStop}
-use Rattle.chi_observe.specs.Reports.{AtFailedWrite, BeginsWith, IsObserved, IsOutcomeOf, IsReportFront, IsReportText, IsTextOf, IsUnreported, is_malformed, outcome_of}
-use Rattle.chi_observe.specs.declared.causes.CauseRow.{CauseRow}
-use Rattle.chi_observe.specs.Judges.{is_at_home}
+use Rattle.chi_observe.specs.Reports.{AtFailedWrite, IsObserved, IsOutcomeOf, IsReportFront, IsReportText, IsTextOf, IsUnreported, is_malformed, outcome_of}
 use Rattle.chi_observe.specs.Streams.{IsTraceWatched, trace_after}
-use Rattle.chi_observe.specs.Told.{AreRanked, IsAcceptedText, judged_text}
 use Rattle.chi_observe.specs.Watched.{Watched, nothing_watched}
 
 -- what comes of a trace is what comes of its lines
@@ -40,12 +37,6 @@ observed_of options demands start new (Some file) stop outcome text same watched
   judged = judged demands start new file stop outcome watched is ∙ ap (λ (w : Watched). outcome_of demands (trace_after w 1 (lines_of file))) same;
   told = subst (λ (w : Watched). IsTextOf (trace_after w 1 (lines_of file)) outcome text) same (told_of demands start new file stop outcome text watched is told);
 }
-
--- what is told of a trace whose flits are all taken begins with what is judged and what isn't
-pub accepted : {R E : Type 0} (bytes : R → List ℕ) (w : Watched) (rows : List CauseRow) (front : List ℕ) (r : Result R E) → AreRanked w.causes rows → front ≡ judged_text (is_at_home w.options) w.options.form.listing w.counts rows
-    → IfOk r (λ text. BeginsWith front (bytes text)) → IfOk r (λ text. IsAcceptedText w (bytes text))
-accepted bytes w rows front (Ok text) ranked same begins = record { rows = rows; ranked = ranked; rest = begins.0; is = begins.1 ∙ ap (λ (l : List ℕ). l ++ begins.0) same }
-accepted bytes w rows front (Err e) ranked same begins = tt
 
 -- the report that is given is the one that was made
 pub given : {R E : Type 0} (P : R → Type 0) (report : R) (r : Result R E) → P report → IfOk r (λ x. x ≡ report) → IfOk r P

@@ -1,5 +1,5 @@
 -- A flit of which its line was told, and which was settled, is the next one.
-use Rattle.std.proofs.Common.{◌≡◌, ℕ, Bool, true, false, cond, Option, Some, None, is_none, refl, sym, ap, subst, ◌∙◌, if◌then◌else◌}
+use Rattle.std.proofs.Common.{◌≡◌, ℕ, Bool, true, Option, Some, None, is_none, refl, sym, ap, subst, ◌∙◌, if◌then◌else◌}
 use Rattle.chi_flit.specs.declared.numbers.Agent.{Agent}
 use Rattle.chi_observe.specs.declared.events.LineEvent.{LineEvent}
 use Rattle.chi_observe.specs.declared.lines.LineNews.{LineNews}

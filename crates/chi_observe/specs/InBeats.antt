@@ -31,7 +31,7 @@ behind_all before s (told ∷ rest) = behind_all before (line_next before s told
 
 -- a line that is judged from the trace's beginning, where no data lack words
 abbrev pub judged_line : NodeId → WatchedWords → Marked → LineState
-judged_line home w marks = record { home = home; aside = false; lacking = lacks.Nothing; told = FromStart w; marks = marks }
+judged_line home w marks = record { home = home; aside = false; why = None; lacking = lacks.Nothing; told = FromStart w; marks = marks }
 
 abbrev pub told_of : List (ℕ × Flit) → List (ℕ × LineNews)
 told_of [] = []

@@ -25,6 +25,7 @@ use Rattle.chi_observe.specs.declared.judges.Judge.TheVariants as judges
 use Rattle.chi_observe.specs.declared.judges.Log.{Log}
 use Rattle.chi_observe.specs.declared.judges.Log.TheVariants.{Whole, Tail, Home}
 use Rattle.chi_observe.specs.declared.steps.WatchOptions.{WatchOptions}
+use Rattle.chi_observe.specs.LateReasons.{LateReason, late_reason, reason_in}
 
 -- the trace is cut out of a longer one, or taken at the home
 abbrev pub is_tail : Log → Bool
@@ -83,29 +84,29 @@ woken_below (suc n) before synced b = wake before synced n (woken_below n before
 unfoldable pub woken : Before → ℕ → Beginning → Beginning
 woken before synced b = woken_below 32 before synced b
 
--- what comes of a flit: it is taken, and this is known then; it isn't; or the line can't be judged any more
+-- what comes of a flit: it is taken, and this is known then; it isn't; or the line can't be judged any more, for this reason
 pub data Verdict : Type 0 where
   Known : Judged → Verdict
   Faulty : Verdict
-  LeftOpen : Verdict
+  LeftOpen : LateReason → Verdict
 
 abbrev pub known_if : Bool → Judged → Verdict
 known_if taken told = if taken then Known told else Faulty
 
-abbrev pub home_verdict : Outcome → Verdict
-home_verdict (Taken a) = Known (AtHome a)
-home_verdict NotTaken = Faulty
-home_verdict LeftAtHome = LeftOpen
+abbrev pub home_verdict : LateReason → Outcome → Verdict
+home_verdict why (Taken a) = Known (AtHome a)
+home_verdict why NotTaken = Faulty
+home_verdict why LeftAtHome = LeftOpen why
 
 abbrev pub verdict : Before → ℕ → Judged → Flit → Verdict
 verdict before number (FromStart l) flit = known_if (takes_by_word l flit) (FromStart (watch_by_word l flit))
 verdict before number (FromMiddle b synced) flit = known_if (takes_begun (woken before synced b) flit) (FromMiddle (begun_after (woken before synced b) flit) number)
-verdict before number (AtHome a) flit = home_verdict (outcome a flit)
+verdict before number (AtHome a) flit = home_verdict (late_reason a flit) (outcome a flit)
 
 abbrev pub verdict_of : Result (Unit {0}) Untaken → Judged → Verdict
 verdict_of (Ok done) told = Known told
 verdict_of (Err (Fault reason)) told = Faulty
-verdict_of (Err (SetAside aside)) told = LeftOpen
+verdict_of (Err (SetAside aside)) told = LeftOpen (reason_in aside)
 
 abbrev pub fault_of : Result (Unit {0}) Reason → Result (Unit {0}) Untaken
 fault_of (Ok done) = Ok done

@@ -8,6 +8,7 @@ pub mod Beats
 pub mod Unknown
 pub mod Grants
 pub mod Marks
+pub mod LateReasons
 pub mod Judges
 pub mod LeftOver
 pub mod Lacking
@@ -23,6 +24,9 @@ pub mod Streams
 pub mod Pending
 pub mod Tallies
 pub mod Recent
+pub mod Names
+pub mod Beginnings
+pub mod Outstanding
 pub mod Told
 pub mod Reports
 pub mod InBeats

@@ -29,25 +29,27 @@ use Rattle.chi_observe.specs.declared.reasons.LineReason.{LineReason}
 use Rattle.chi_observe.specs.declared.reasons.LineReason.TheVariants.{OtherHome, Rule}
 use Rattle.chi_observe.specs.Judges.{Before, Judged, Verdict, holds, is_judge_reason, judged, keeps_store, opened_from, told_in, told_words, verdict, wanted_in, worded}
 use Rattle.chi_observe.specs.Judges.Verdict.{Known, Faulty, LeftOpen}
+use Rattle.chi_observe.specs.LateReasons.{LateReason, reason_in}
 use Rattle.chi_observe.specs.Lacking.{is_known_lacking, is_data_lacking, is_none_lacking, lacking_shown, lacking_with, lacking_without, may_show, unknown_in}
 use Rattle.chi_observe.specs.Words.{agrees, but_one, lacks_some, left_of, none_lack, with_known, words_with}
 use Rattle.chi_observe.specs.Marks.{Marked, marked, marks_after, nothing_marked, shows_words, teller_of}
 
--- its home, whether it isn't judged any more, what data of it lack that come in beats, and what its flits have told, and by
--- which lines of the trace
+-- its home, whether it isn't judged any more, and why where a late flit set it aside, what data of it lack that come in beats,
+-- and what its flits have told, and by which lines of the trace
 pub record LineState : Type 0 where
   pub home : NodeId
   pub aside : Bool
+  pub why : Option LateReason
   pub lacking : Lacking
   pub told : Judged
   pub marks : Marked
 
 abbrev pub line_state : {A : Type 0} → LineSeen A → LineState
-line_state seen = record { home = seen.home; aside = seen.aside; lacking = seen.lacking; told = judged seen.judge; marks = marked seen.marks }
+line_state seen = record { home = seen.home; aside = seen.aside; why = option_map reason_in seen.why; lacking = seen.lacking; told = judged seen.judge; marks = marked seen.marks }
 
 -- a line that no flit has touched before the one with this number
 abbrev pub opened_line : Before → ℕ → NodeId → LineState
-opened_line before number home = record { home = home; aside = false; lacking = lacks.Nothing; told = opened_from before.log before.stores number; marks = nothing_marked number }
+opened_line before number home = record { home = home; aside = false; why = None; lacking = lacks.Nothing; told = opened_from before.log before.stores number; marks = nothing_marked number }
 
 -- the lines that flits have touched
 abbrev pub lines_in : {A : Type 0} → List (ℕ × LineSeen A) → ℕ → Option LineState
@@ -72,6 +74,9 @@ is_aside (Some s) = s.aside
 abbrev pub put_aside : LineState → LineState
 put_aside s = record s { aside = true }
 
+abbrev pub left_open : LateReason → LineState → LineState
+left_open why s = record s { aside = true; why = Some why }
+
 -- A line takes a flit of its home that is no fault, and any once it isn't judged; one that isn't judged, or leaves open what
 -- it tells, sets it aside. A request that isn't told yet marks nothing.
 abbrev pub is_passed : Verdict → Bool
@@ -90,7 +95,7 @@ marked_next s number flit = record s { marks = marks_behind s.told number flit s
 
 abbrev pub next_by : Verdict → LineState → ℕ → Flit → LineState
 next_by (Known told) s number flit = marked_next (record s { told = told }) number flit
-next_by LeftOpen s number flit = put_aside s
+next_by (LeftOpen why) s number flit = left_open why s
 next_by Faulty s number flit = s
 
 abbrev pub flit_next : Before → LineState → ℕ → Option Flit → LineState

@@ -1,7 +1,7 @@
 -- What is told of a trace whose flits are all taken: what of it isn't judged and why, and what is (docs/OBSERVER.md, "What is
 -- printed").
-use Rattle.std.specs.Prelude.{◌≡◌, ℕ, ◌+◌, ◌-◌, ◌*◌, ◌==◌, ◌&&◌, ◌||◌, min, Bool, false, not, List, [], ◌∷◌, ◌++◌, Option, Some, None, codes, if◌then◌else◌, is_some}
-use Rattle.std.specs.Fmt.{decimal, digits}
+use Rattle.std.specs.Prelude.{◌≡◌, ℕ, ◌-◌, ◌==◌, ◌&&◌, ◌||◌, Bool, not, List, [], ◌∷◌, ◌++◌, Option, Some, None, codes, if◌then◌else◌, is_some}
+use Rattle.std.specs.Fmt.{decimal}
 use Rattle.std.specs.List.{flat_map}
 use Rattle.std.specs.List.Sorted.{IsNonDecreasingBy, IsPermutation}
 use Rattle.chi_ids.specs.declared.keys.CacheLine.{CacheLine}
@@ -9,8 +9,13 @@ use Rattle.chi_trace.specs.declared.forms.Listing.{Listing}
 use Rattle.chi_trace.specs.declared.forms.Listing.TheVariants as listings
 use Rattle.chi_observe.specs.declared.causes.CauseRow.{CauseRow}
 use Rattle.chi_observe.specs.declared.watch.Counts.{Counts}
+use Rattle.chi_observe.specs.Beginnings.{IsCountOf, is_unknown_at, unknown_line}
 use Rattle.chi_observe.specs.Causes.{cause_text}
 use Rattle.chi_observe.specs.Judges.{is_at_home}
+use Rattle.chi_observe.specs.LateReasons.{LateReason, late_reason_text}
+use Rattle.chi_observe.specs.Lines.{LineState}
+use Rattle.chi_observe.specs.Names.{line_text}
+use Rattle.chi_observe.specs.Outstanding.{open_text}
 use Rattle.chi_observe.specs.Watched.{Watched}
 
 -- whether something isn't judged, and whether nothing is
@@ -31,13 +36,9 @@ where_any n text = if n == 0 then [] else text
 abbrev pub unjudged_line : Counts → List ℕ
 unjudged_line n = codes "not judged: " ++ (decimal n.unjudged ++ (codes " of " ++ (decimal n.flits ++ (codes " flits, on " ++ (decimal n.aside ++ (codes " of " ++ (decimal n.lines ++ (codes " cache lines" ++ (10 ∷ [])))))))))
 
--- the address of a cache line, in hexadecimal; it has 64 bits
-abbrev pub address_of : CacheLine → ℕ
-address_of line = min (line.0 * 64) 18446744073709551615
-
 -- each cause, with how many cache lines it set aside, and the first of them
 abbrev pub cause_line : CauseRow → List ℕ
-cause_line row = cause_text row.first.cause ++ (codes ": " ++ (decimal row.lines ++ (codes " cache lines, the first " ++ (digits 16 false (address_of row.first.line) ++ (codes " by trace line " ++ (decimal row.first.number ++ (10 ∷ [])))))))
+cause_line row = cause_text row.first.cause ++ (codes ": " ++ (decimal row.lines ++ (codes " cache lines, the first " ++ (line_text row.first.line ++ (codes " by trace line " ++ (decimal row.first.number ++ (10 ∷ [])))))))
 
 -- the most frequent first
 abbrev pub rank : CauseRow → ℕ
@@ -91,9 +92,29 @@ pub record IsUnjudgedText (w : Watched) (text : List ℕ) : Type 0 where
   pub ranked : AreRanked w.causes rows
   pub is : text ≡ unjudged_text (is_at_home w.options) w.counts rows
 
--- The text of a trace whose flits are all taken: all of that, in this order, and then how the trace begins and what is open.
+-- then why the first cache line of each cause was set aside, where a late flit did that
+abbrev pub why_of : Option LineState → Option LateReason
+why_of None = None
+why_of (Some s) = s.why
+
+abbrev pub late_at : CacheLine → Option LateReason → List ℕ
+late_at line None = []
+late_at line (Some why) = codes "set aside at " ++ (line_text line ++ (codes ": " ++ (late_reason_text why ++ (10 ∷ []))))
+
+abbrev pub late_line : (ℕ → Option LineState) → CauseRow → List ℕ
+late_line lines row = late_at row.first.line (why_of (lines row.first.line.0))
+
+abbrev pub late_text : Watched → List ℕ
+late_text w = flat_map (late_line w.lines) w.causes
+
+-- on how many cache lines a copy isn't known, of a trace that begins in the middle; and what is open at the end
+abbrev pub rest_text : Watched → ℕ → List ℕ
+rest_text w unknown = late_text w ++ (unknown_line w.options unknown ++ open_text w)
+
+-- The text of a trace whose flits are all taken: all of that, in this order, and nothing else.
 pub record IsAcceptedText (w : Watched) (text : List ℕ) : Type 0 where
   pub rows : List CauseRow
   pub ranked : AreRanked w.causes rows
-  pub rest : List ℕ
-  pub is : text ≡ judged_text (is_at_home w.options) w.options.form.listing w.counts rows ++ rest
+  pub unknown : ℕ
+  pub counted : IsCountOf (is_unknown_at w) unknown
+  pub is : text ≡ judged_text (is_at_home w.options) w.options.form.listing w.counts rows ++ rest_text w unknown

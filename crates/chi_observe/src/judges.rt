@@ -6,6 +6,10 @@ ghost use Rattle.chi_observer.specs.Arriving.{holds_none};
 ghost use Rattle.chi_observer.specs.Begun.{begun};
 ghost use Rattle.chi_observer.specs.Lines.{watched};
 ghost use Rattle.chi_observer.specs.WordedLines.{words_watched, words_of};
+ghost use Rattle.chi_observer.specs.Worlds.{all_below};
+ghost use Rattle.chi_observe.specs.Beginnings.{certainty_of, is_told_at};
+ghost use Rattle.chi_observe.specs.Judges.Judged.{AtHome};
+ghost use Rattle.chi_observer.specs.Arrivals.{arrived};
 ghost use Rattle.chi_observe.specs.Judges.{before_of, fault_of, holds, is_judge_fault, judged, keeps_store, line_judged, opened_from, told_in, told_words, verdict, verdict_of, wake, wanted_in, woken, worded};
 
 use crate::marks::teller_of;
@@ -66,6 +70,22 @@ fn untaken(taken: Result<(), Reason>) -> Result<(), Untaken>
         Ok(()) => Ok(()),
         Err(reason) => Err(Untaken::Fault(reason)),
     }
+}
+
+/// Takes the next flit of a line that is logged at its home, which has this number.
+fn take_at_home(
+    arrivals: &mut Arrivals,
+    flit: Flit,
+    before: &Before,
+    number: usize,
+) -> Result<(), Untaken>
+    ensures verdict { verdict_of result (AtHome (arrived arrivals.new))
+        ≡ verdict (before_of before.now) number (AtHome (arrived arrivals.old)) flit }
+    ensures kept { OnErr result (arrivals.new ≡ arrivals.old) }
+    ensures fault { IfErr result (λ why.
+        is_judge_fault (before_of before.now) (AtHome (arrived arrivals.old)) flit why ≡ true) }
+{
+    arrivals.take(flit)
 }
 
 impl BegunLine {
@@ -224,7 +244,7 @@ impl<A: Allocator> Judge<A> {
         match self {
             Judge::Whole(observer) => untaken(observer.take(flit)),
             Judge::Begun(line) => line.take(flit, before, number),
-            Judge::Home(arrivals) => arrivals.take(flit),
+            Judge::Home(arrivals) => take_at_home(arrivals, flit, before, number),
         }
     }
 
@@ -274,19 +294,35 @@ impl<A: Allocator> Judge<A> {
     }
 
     /// How much is known of an agent's copy.
-    pub(crate) fn certainty(&self, agent: usize) -> Certainty {
+    pub(crate) fn certainty(&self, agent: usize) -> Certainty
+        ensures { result ≡ certainty_of (judged self.now) agent }
+    {
         match self {
-            Judge::Whole(_) | Judge::Home(_) => Certainty::Told,
+            Judge::Whole(_) => Certainty::Told,
             Judge::Begun(line) => match line.begun.agents.get(agent) {
                 Some(mark) => mark.copy,
-                None => Certainty::Unknown,
+                None => Certainty::Told,
             },
+            Judge::Home(_) => Certainty::Told,
         }
     }
 
-    /// Whether something isn't known of the copies of the first agents, so many.
-    pub(crate) fn is_unknown(&self, agents: usize) -> bool {
-        (0..agents).any(|agent| !matches!(self.certainty(agent), Certainty::Told))
+    /// Whether it is known what an agent's copy was told to be.
+    fn is_told(&self, agent: usize) -> bool
+        ensures { result ≡ is_told_at (judged self.now) agent }
+    {
+        matches!(self.certainty(agent), Certainty::Told)
+    }
+
+    /// Whether it is known of each of the first agents, so many.
+    pub(crate) fn are_told(&self, agents: usize) -> bool
+        ensures { result ≡ all_below agents (is_told_at (judged self.now)) }
+    {
+        let mut told = true;
+        for n in 0..agents {
+            told &= self.is_told(n);
+        }
+        told
     }
 
     /// What the words of data have to be that come in beats; `Nothing` where the line is told of them at their last beat.

@@ -5,6 +5,7 @@
 
 mod accesses;
 mod beats;
+mod beginnings;
 mod benches;
 mod bounded;
 mod causes;
@@ -16,6 +17,7 @@ mod grants;
 mod ids;
 mod judges;
 mod lacking;
+mod late;
 mod laws;
 mod left_over;
 mod lines;
@@ -24,6 +26,7 @@ mod marks;
 mod names;
 mod nodes;
 mod observations;
+mod outstanding;
 mod pending;
 mod progress;
 mod reasons;

@@ -6,7 +6,8 @@ ghost use Rattle.chi_observe.specs.declared.lines.LineStop.TheVariants as stops;
 ghost use Rattle.chi_observer.specs.WordedLines.{words_of};
 ghost use Rattle.chi_observe.specs.Judges.{before_of};
 ghost use Rattle.chi_observe.specs.Lacking.{unknown_in};
-ghost use Rattle.chi_observe.specs.Lines.{IsBegunTold, IsBetweenTold, IsEarlyTold, IsEndTold, IsFlitTold, IsHeldTold, IsHoldTold, IsLastTold, IsLineTold, IsShownTold, IsTold, asks_lacking, early_of, forgets_data, had_lacking, held_next, home_of, is_apart, is_aside, is_given, is_showing, is_wanted_free, is_wanted_known, lacks_of, line_state, lines_in, marked_next, opened_line, presented, put_aside, shown_more, shown_words, shows_home, told_as, wanted_of, with_shown, word_in};
+ghost use Rattle.chi_observe.specs.LateReasons.{reason_in};
+ghost use Rattle.chi_observe.specs.Lines.{IsBegunTold, IsBetweenTold, IsEarlyTold, IsEndTold, IsFlitTold, IsHeldTold, IsHoldTold, IsLastTold, IsLineTold, IsShownTold, IsTold, asks_lacking, early_of, forgets_data, had_lacking, held_next, home_of, is_apart, is_aside, is_given, is_showing, is_wanted_free, is_wanted_known, lacks_of, left_open, line_state, lines_in, marked_next, opened_line, presented, put_aside, shown_more, shown_words, shows_home, told_as, wanted_of, with_shown, word_in};
 
 use crate::ids::Later;
 use crate::judges::{Before, Judge};
@@ -143,6 +144,14 @@ impl<A: Allocator> LineSeen<A> {
         self.aside = true;
     }
 
+    /// Nor any more since a flit left open what it tells.
+    fn leave_open(&mut self, why: Aside)
+        ensures { line_state self.new ≡ left_open (reason_in why) (line_state self.old) }
+    {
+        self.aside = true;
+        self.why = Some(why);
+    }
+
     /// A flit that was taken is marked by its number, but a request that isn't told yet.
     fn mark(&mut self, flit: &Flit, number: usize) -> Result<(), AllocError>
         ensures { OnOk result
@@ -180,8 +189,7 @@ impl<A: Allocator> LineSeen<A> {
             Ok(()) => Ok(self.mark(flit, number)?),
             Err(Untaken::Fault(reason)) => Err(LineStop::Refused(LineReason::Rule(reason))),
             Err(Untaken::SetAside(why)) => {
-                self.why = Some(why);
-                self.set_aside();
+                self.leave_open(why);
                 Ok(())
             }
         }

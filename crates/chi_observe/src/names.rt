@@ -1,6 +1,7 @@
-//! How nodes, lines and flits are written. No clause says these texts: they are tested.
+//! How nodes, lines and flits are written. Of flits and copies no clause says the texts: they are tested.
 
-ghost use Rattle.std.specs.Prelude.{IfOk, string_bytes};
+ghost use Rattle.std.specs.Prelude.{◌≡◌, IfOk, Some, min, string_bytes};
+ghost use Rattle.chi_observe.specs.Names.{address_of, kind_text, line_text, node_text, snoop_text};
 ghost use Rattle.chi_observe.specs.Reports.{BeginsWith};
 
 use chi_flit::State;
@@ -39,15 +40,26 @@ pub(crate) struct ToldName(pub Told);
 pub(crate) struct KeyName(pub IdKey);
 
 impl fmt::Display for NodeName {
+    ghost output = { λ name. Some (node_text name.0) };
+
     fn fmt<W: fmt::Write>(&self, f: &mut fmt::Formatter<W>) -> fmt::Result {
         let number = self.0.0;
         write!(f, "{number:x}")
     }
 }
 
+/// The address of a line.
+pub(crate) fn address_of(line: CacheLine) -> u64
+    ensures { result ≡ address_of line }
+{
+    line.0.saturating_mul(64)
+}
+
 impl fmt::Display for LineName {
+    ghost output = { λ name. Some (line_text name.0) };
+
     fn fmt<W: fmt::Write>(&self, f: &mut fmt::Formatter<W>) -> fmt::Result {
-        let address = u128::from(self.0.0) * 64;
+        let address = address_of(self.0);
         write!(f, "{address:x}")
     }
 }
@@ -101,6 +113,8 @@ impl fmt::Display for SeenName<'_> {
 }
 
 impl fmt::Display for KindName {
+    ghost output = { λ name. Some (kind_text name.0) };
+
     fn fmt<W: fmt::Write>(&self, f: &mut fmt::Formatter<W>) -> fmt::Result {
         f.write_str(match self.0 {
             Kind::ReadNotSharedDirty => "ReadNotSharedDirty",
@@ -123,6 +137,8 @@ impl fmt::Display for KindName {
 }
 
 impl fmt::Display for SnoopName {
+    ghost output = { λ name. Some (snoop_text name.0) };
+
     fn fmt<W: fmt::Write>(&self, f: &mut fmt::Formatter<W>) -> fmt::Result {
         f.write_str(match self.0 {
             Snoop::SnpOnce => "SnpOnce",

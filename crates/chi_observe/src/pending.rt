@@ -7,17 +7,13 @@ ghost use Rattle.chi_observe.specs.Lines.{line_state};
 ghost use Rattle.chi_observe.specs.Watched.{watched};
 
 use crate::credits::Account;
-use crate::ids::{OpenId, Purpose};
+use crate::ids::OpenId;
 use crate::lines::{LineSeen, is_aside};
-use crate::names::{KindName, LineName, NodeName, SnoopName};
 use crate::nodes::agent_of;
 use crate::watch::Watch;
 use chi_flit::Agent;
-use chi_ids::{IdKey, Sides};
-use chi_trace::NodeId;
-use std::alloc::{AllocError, Allocator};
-use std::fmt;
-use std::fmt::Write;
+use chi_ids::IdKey;
+use std::alloc::Allocator;
 
 /// Whether the agent's request at the line that was retried is surely cancelled.
 fn is_cancelled_at<A: Allocator>(seen: &LineSeen<A>, agent: Agent) -> bool
@@ -85,114 +81,5 @@ impl<A: Allocator> Watch<A> {
         ensures { result ≡ is_open (watched self.now) }
     {
         self.has_open_id() || (!self.options.is_cut() && self.has_open_account())
-    }
-}
-
-/// An id that is open at the end.
-#[derive(Clone, Copy)]
-struct OpenText(OpenId);
-
-/// Credits that are owed, or unused.
-#[derive(Clone, Copy)]
-struct AccountText(Account);
-
-/// What an id is open for.
-#[derive(Clone, Copy)]
-struct PurposeName(Purpose);
-
-/// An id of a known line, and since when it is open.
-#[derive(Clone, Copy)]
-pub(crate) struct SinceText(pub OpenId);
-
-/// The requester of an id.
-pub(crate) fn requester_in(key: IdKey) -> NodeId {
-    let sides: Sides = match key {
-        IdKey::Request(sides, _) => sides,
-        IdKey::Buffer(sides, _) => sides,
-        IdKey::Snoop(sides, _) => sides,
-        IdKey::Retried(sides, _) => sides,
-    };
-    sides.requester
-}
-
-/// What an open id waits for.
-fn lack_of(id: &OpenId) -> &'static str {
-    match (id.lacks, id.key) {
-        (Some(_), _) => "without all words of its data",
-        (None, IdKey::Request(_, _)) => "without its completion",
-        (None, IdKey::Buffer(_, _)) => "without CompAck or write data",
-        (None, IdKey::Snoop(_, _)) => "without its answer",
-        (None, IdKey::Retried(_, _)) => "not sent again or cancelled",
-    }
-}
-
-impl fmt::Display for PurposeName {
-    fn fmt<W: fmt::Write>(&self, f: &mut fmt::Formatter<W>) -> fmt::Result {
-        match self.0 {
-            Purpose::Request { kind, first: _ } => {
-                let kind = KindName(kind);
-                write!(f, "{kind} of")
-            }
-            Purpose::Snoop(snoop) => {
-                let snoop = SnoopName(snoop);
-                write!(f, "{snoop} to")
-            }
-            Purpose::Unknown { first: _ } => write!(f, "another flit of"),
-        }
-    }
-}
-
-impl fmt::Display for OpenText {
-    fn fmt<W: fmt::Write>(&self, f: &mut fmt::Formatter<W>) -> fmt::Result {
-        let (purpose, node) = (
-            PurposeName(self.0.purpose),
-            NodeName(requester_in(self.0.key)),
-        );
-        let (line, lack, number) = (LineName(self.0.line), lack_of(&self.0), self.0.since);
-        write!(
-            f,
-            "{purpose} node {node} at {line}, since line {number} {lack}"
-        )
-    }
-}
-
-impl fmt::Display for SinceText {
-    fn fmt<W: fmt::Write>(&self, f: &mut fmt::Formatter<W>) -> fmt::Result {
-        let (purpose, node) = (
-            PurposeName(self.0.purpose),
-            NodeName(requester_in(self.0.key)),
-        );
-        let (lack, number) = (lack_of(&self.0), self.0.since);
-        write!(f, "{purpose} node {node}, since line {number} {lack}")
-    }
-}
-
-impl fmt::Display for AccountText {
-    fn fmt<W: fmt::Write>(&self, f: &mut fmt::Formatter<W>) -> fmt::Result {
-        let (node, pcrd) = (NodeName(self.0.sides.requester), self.0.pcrd.0);
-        let (owed, unused) = (self.0.owed(), self.0.unused());
-        write!(
-            f,
-            "credits of type {pcrd:x} of node {node}: {owed} owed, {unused} unused"
-        )
-    }
-}
-
-impl<A: Allocator> Watch<A> {
-    /// Puts a line for each thing that is open behind the text.
-    pub(crate) fn write_open(&self, text: &mut String<A>) -> Result<(), AllocError> {
-        for id in self.ids.values().as_slice() {
-            if self.is_id_open(id) {
-                let id = OpenText(*id);
-                writeln!(text, "open: {id}")?;
-            }
-        }
-        for account in self.accounts.values().as_slice() {
-            if !self.options.is_cut() && is_account_open(account) {
-                let account = AccountText(*account);
-                writeln!(text, "open: {account}")?;
-            }
-        }
-        Ok(())
     }
 }

@@ -1,16 +1,16 @@
 //! The report on a trace.
 
-ghost use Rattle.std.specs.Prelude.{◌≡◌, ◌-◌, IfOk, string_bytes};
+ghost use Rattle.std.specs.Prelude.{◌≡◌, ◌++◌, ◌-◌, IfOk, OnOk, string_bytes};
 ghost use Rattle.chi_observe.specs.Pending.{is_open};
 ghost use Rattle.chi_observe.specs.Reports.{BeginsWith, IsOutcomeOf, IsReportText, ended_outcome, is_nothing_seen, nothing_text, numbered, unjudged_outcome};
-ghost use Rattle.chi_observe.specs.Told.{IsAcceptedText, IsUnjudgedText, is_nothing_judged, is_unjudged};
+ghost use Rattle.chi_observe.specs.Told.{IsAcceptedText, IsUnjudgedText, is_nothing_judged, is_unjudged, rest_text};
 ghost use Rattle.chi_observe.specs.Watched.{watched};
 
+use crate::beginnings::write_unknown;
 use crate::malformed::malformed_text;
 use crate::names::{LineName, NodeName, SeenName, joined, requester_of};
 use crate::seen::event_of;
 use crate::stream::{Notes, TextStop};
-use crate::texts::AsideText;
 use crate::told::{ranked, write_cut, write_judged, write_unjudged};
 use crate::watch::{Counts, Watch, WatchFault};
 use chi_trace::{AnySeen, TraceFault};
@@ -146,14 +146,22 @@ impl<A: Allocator + Copy> Watch<A> {
         ensures { IfOk result (λ text. IsAcceptedText (watched self.now) (string_bytes text)) }
     {
         let rows = ranked(alloc, &self.causes)?;
-        let mut front = String::new(alloc);
+        let unknown = self.unknown_lines();
+        let mut text = String::new(alloc);
         let (home, listing) = (self.options.is_at_home(), self.options.form.listing);
-        write_judged(&mut front, home, listing, self.counts, &rows)?;
-        let mut rest = String::new(alloc);
-        self.write_late(&mut rest)?;
-        self.write_start(&mut rest)?;
-        self.write_open(&mut rest)?;
-        joined(front, &rest)
+        write_judged(&mut text, home, listing, self.counts, &rows)?;
+        self.write_rest(&mut text, unknown)?;
+        Ok(text)
+    }
+
+    /// Puts behind the text why lines are set aside, on how many a copy isn't known, and what is open.
+    fn write_rest(&self, text: &mut String<A>, unknown: usize) -> Result<(), AllocError>
+        ensures { OnOk result (string_bytes text.new
+            ≡ string_bytes text.old ++ rest_text (watched self.now) unknown) }
+    {
+        self.write_late(text)?;
+        write_unknown(text, self.options, unknown)?;
+        self.write_open(text)
     }
 
     /// What is told of flits, loads and stores that aren't judged; empty where each is.
@@ -164,35 +172,6 @@ impl<A: Allocator + Copy> Watch<A> {
         let mut text = String::new(alloc);
         write_unjudged(&mut text, self.options.is_at_home(), self.counts, &rows)?;
         Ok(text)
-    }
-
-    /// Puts behind the text why the first line was set aside by a late flit.
-    fn write_late(&self, text: &mut String<A>) -> Result<(), AllocError> {
-        for row in &self.causes {
-            let line = row.first.line;
-            if let Some(why) = self.lines.get(&line.0).and_then(|seen| seen.why) {
-                let (line, why) = (LineName(line), AsideText(why));
-                writeln!(text, "set aside at {line}: {why}")?;
-            }
-        }
-        Ok(())
-    }
-
-    /// Puts on how many lines a copy isn't known behind the text, of a trace that is cut out of a longer one.
-    fn write_start(&self, text: &mut String<A>) -> Result<(), AllocError> {
-        if !self.options.is_cut() {
-            return Ok(());
-        }
-        let (agents, mut count) = (self.requesters.len(), 0u64);
-        for seen in self.lines.values().as_slice() {
-            if !seen.aside && seen.judge.is_unknown(agents) {
-                count = count.saturating_add(1);
-            }
-        }
-        writeln!(
-            text,
-            "begun in the middle: on {count} lines a copy isn't known"
-        )
     }
 
     /// What is told of a flit that isn't taken.

@@ -8,7 +8,7 @@ use crate::lines::{LineSeen, home_of, lacks_of};
 use crate::marks::{is_known, teller_of};
 use crate::names::{GIVEN, KeyName, LineName, NodeName, SENT, ToldName};
 use crate::nodes::agent_of;
-use crate::pending::{SinceText, requester_in};
+use crate::outstanding::{SinceText, requester_in};
 use crate::reasons::{IdReason, LineReason};
 use crate::steps::IdStep;
 use crate::tables::Part;
@@ -17,8 +17,8 @@ use crate::words::words_with;
 use chi_flit::{Agent, Data};
 use chi_ids::{CacheLine, IdKey};
 use chi_observer::{
-    AGENTS, Act, Aside, CacheFlit, Certainty, Due, Flit, HomeFlit, Kind, KnownWords, Observer,
-    Reason, Told,
+    AGENTS, Act, CacheFlit, Certainty, Due, Flit, HomeFlit, Kind, KnownWords, Observer, Reason,
+    Told,
 };
 use chi_trace::NodeId;
 use std::alloc::{AllocError, Allocator};
@@ -75,28 +75,6 @@ impl fmt::Display for IdText {
             IdReason::NoDbid(_) => f.write_str("its request needs a DBID"),
             IdReason::Form(resp) => write!(f, "no flit of the opcode has RESP {resp}"),
         }
-    }
-}
-
-/// Why a line is set aside whose flits the home receives.
-#[derive(Clone, Copy)]
-pub(crate) struct AsideText(pub Aside);
-
-impl fmt::Display for AsideText {
-    fn fmt<W: fmt::Write>(&self, f: &mut fmt::Formatter<W>) -> fmt::Result {
-        f.write_str(aside_text(self.0))
-    }
-}
-
-/// The same as a text.
-fn aside_text(why: Aside) -> &'static str {
-    match why {
-        Aside::TwoRequests => "it isn't known what its node's last request was sent from",
-        Aside::Retried => "a request of its node that was retried may have been cancelled before",
-        Aside::EarlierData => "a request is completed before write data that were sent first",
-        Aside::HeldRequest(_) => "what a request tells that is held may make it legal",
-        Aside::Thrown => "a copy was clean that seemed to be thrown away dirty",
-        Aside::Uncounted => "more is on its way than is counted",
     }
 }
 

@@ -1,12 +1,12 @@
 //! What is told of a trace whose flits are all taken: what of it isn't judged and why, and what is.
 
-ghost use Rattle.std.specs.Prelude.{◌≡◌, ◌++◌, IfOk, OnOk, min, string_bytes};
+ghost use Rattle.std.specs.Prelude.{◌≡◌, ◌++◌, IfOk, OnOk, string_bytes};
 ghost use Rattle.std.specs.List.{flat_map};
-ghost use Rattle.chi_observe.specs.Told.{AreRanked, accepted_accesses, accepted_line, address_of, cause_line, cut_line, judged_text, left_over_line, unjudged_line, unjudged_lines, unjudged_text, unseen_end, unseen_front, unseen_line, values_line};
+ghost use Rattle.chi_observe.specs.Told.{AreRanked, accepted_accesses, accepted_line, cause_line, cut_line, judged_text, left_over_line, unjudged_line, unjudged_lines, unjudged_text, unseen_end, unseen_front, unseen_line, values_line};
 
 use crate::causes::CauseRow;
+use crate::names::LineName;
 use crate::watch::Counts;
-use chi_ids::CacheLine;
 use chi_trace::Listing;
 use std::alloc::{AllocError, Allocator};
 use std::fmt::Write;
@@ -22,13 +22,6 @@ pub(crate) fn ranked<A: Allocator + Copy>(
     rows.extend_from_slice(causes)?;
     rows.sort_by_key(|row| u64::MAX - row.lines)?;
     Ok(rows)
-}
-
-/// The address of a line.
-fn address_of(line: CacheLine) -> u64
-    ensures { result ≡ address_of line }
-{
-    line.0.saturating_mul(64)
 }
 
 /// Puts how many flits aren't judged behind the text, and on how many cache lines.
@@ -52,10 +45,10 @@ fn write_cause<A: Allocator>(text: &mut String<A>, row: &CauseRow) -> Result<(),
     ensures { OnOk result (string_bytes text.new ≡ string_bytes text.old ++ cause_line row.now) }
 {
     let (cause, lines, number) = (row.first.cause, row.lines, row.first.number);
-    let address = address_of(row.first.line);
+    let line = LineName(row.first.line);
     writeln!(
         text,
-        "{cause}: {lines} cache lines, the first {address:x} by trace line {number}"
+        "{cause}: {lines} cache lines, the first {line} by trace line {number}"
     )
 }
 

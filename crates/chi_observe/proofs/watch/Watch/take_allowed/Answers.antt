@@ -1,5 +1,5 @@
 -- The line was told of the flit, and the rest is settled.
-use Rattle.std.proofs.Common.{◌≡◌, Some, ap, sym, ◌∙◌, true≢false}
+use Rattle.std.proofs.Common.{Some, ap, sym, ◌∙◌, true≢false}
 use Rattle.chi_observe.specs.Lines.{lines_in}
 use Rattle.chi_observe.specs.Watched.{watched}
 use Rattle.chi_observe.proofs.WatchLemmas.{told_settled}

@@ -1,5 +1,5 @@
 -- The id is named, of the agents that its requester may be the number is the last, and the flit is counted.
-use Rattle.std.proofs.Common.{rules, ◌≡◌, ◌+◌, List, length, position, ap, ◌∙◌}
+use Rattle.std.proofs.Common.{rules, ◌≡◌, List, length, position, ap, ◌∙◌}
 use Rattle.chi_trace.specs.declared.fields.NodeId.{NodeId}
 use Rattle.chi_observe.specs.Judges.{last_of}
 use Rattle.chi_observe.specs.LeftOver.{last_at, named_behind}
