@@ -1,4 +1,5 @@
-//! A node behind locks beside the parts of another one: the same calls leave the same slices.
+//! The parts of a node: beside a node behind locks, where the same calls leave the same slices, and a requester of them
+//! beside the slice of another node, with which it doesn't agree (`docs/PROTOCOL.md`, "Agreement").
 
 ghost use Rattle.std.specs.Prelude.{◌≡◌, [], ◌∷◌};
 ghost use Rattle.chi_flit.specs.declared.credit.Profile.TheVariants.{Two};
@@ -8,11 +9,14 @@ ghost use Rattle.chi_node.specs.Node.{IsOwn};
 ghost use Rattle.chi_node.specs.Parts.{opening_requesters, opening_slices};
 ghost use Rattle.chi_node.specs.Words.{shape_of};
 
+use crate::beside::Call::{Comes, Does};
 use arrayvec::ArrayVec;
 use chi_flit::Kind::{ReadNotSharedDirty, ReadUnique};
-use chi_flit::Step::{self, Issue, RecvAck, RecvData, RecvSnp, RecvSnpResp, Start};
-use chi_flit::{Action, Effect, Entry, Line, Refusal, Slot};
-use chi_node::{Arrived, Node, Released, Requester, Stepped, Tracker, arrive_on, parts, step_on};
+use chi_flit::Step::{self, Issue, Load, RecvAck, RecvData, RecvSnp, RecvSnpResp, Start};
+use chi_flit::{Action, Effect, Entry, Line, Refusal, Slot, WordNo};
+use chi_node::{
+    Arrived, Node, Released, Requester, Stepped, Tracker, agrees, arrive_on, parts, step_on,
+};
 use chi_slice::{Config, Slice};
 use std::alloc::Global;
 use std::process::Abort;
@@ -37,42 +41,36 @@ const FREED: Stepped = Stepped {
 
 /// A requester reads a line of which the home names nobody.
 const READ: [(u8, Call); 5] = [
-    (
-        0,
-        Call::Does(Issue(ReadNotSharedDirty, Slot(0)), Ok(NOTHING)),
-    ),
-    (0, Call::Comes(Ok(Arrived::Admitted(Entry(0))))),
-    (0, Call::Does(Start, Ok(NOTHING))),
-    (0, Call::Does(RecvData, Ok(NOTHING))),
-    (0, Call::Does(RecvAck, Ok(FREED))),
+    (0, Does(Issue(ReadNotSharedDirty, Slot(0)), Ok(NOTHING))),
+    (0, Comes(Ok(Arrived::Admitted(Entry(0))))),
+    (0, Does(Start, Ok(NOTHING))),
+    (0, Does(RecvData, Ok(NOTHING))),
+    (0, Does(RecvAck, Ok(FREED))),
 ];
 
 /// The other one takes the line, which is refused while the first one's CompAck is in flight, and the first reads it
 /// once more.
 const CROSSING: [(u8, Call); 20] = [
-    (0, Call::Does(Issue(ReadUnique, Slot(0)), Ok(NOTHING))),
-    (0, Call::Comes(Ok(Arrived::Admitted(Entry(0))))),
-    (0, Call::Does(Start, Ok(NOTHING))),
-    (0, Call::Does(RecvData, Ok(NOTHING))),
-    (1, Call::Does(Issue(ReadUnique, Slot(0)), Ok(NOTHING))),
-    (1, Call::Comes(Ok(Arrived::Admitted(Entry(1))))),
-    (1, Call::Does(Start, Err(Refusal::LineBusy))),
-    (0, Call::Does(RecvAck, Ok(FREED))),
-    (1, Call::Does(Start, Ok(NOTHING))),
-    (0, Call::Does(RecvSnp, Ok(NOTHING))),
-    (0, Call::Does(RecvSnpResp, Ok(NOTHING))),
-    (1, Call::Does(RecvData, Ok(NOTHING))),
-    (1, Call::Does(RecvAck, Ok(FREED))),
-    (
-        0,
-        Call::Does(Issue(ReadNotSharedDirty, Slot(0)), Ok(NOTHING)),
-    ),
-    (0, Call::Comes(Ok(Arrived::Admitted(Entry(0))))),
-    (0, Call::Does(Start, Ok(NOTHING))),
-    (1, Call::Does(RecvSnp, Ok(NOTHING))),
-    (1, Call::Does(RecvSnpResp, Ok(NOTHING))),
-    (0, Call::Does(RecvData, Ok(NOTHING))),
-    (0, Call::Does(RecvAck, Ok(FREED))),
+    (0, Does(Issue(ReadUnique, Slot(0)), Ok(NOTHING))),
+    (0, Comes(Ok(Arrived::Admitted(Entry(0))))),
+    (0, Does(Start, Ok(NOTHING))),
+    (0, Does(RecvData, Ok(NOTHING))),
+    (1, Does(Issue(ReadUnique, Slot(0)), Ok(NOTHING))),
+    (1, Comes(Ok(Arrived::Admitted(Entry(1))))),
+    (1, Does(Start, Err(Refusal::LineBusy))),
+    (0, Does(RecvAck, Ok(FREED))),
+    (1, Does(Start, Ok(NOTHING))),
+    (0, Does(RecvSnp, Ok(NOTHING))),
+    (0, Does(RecvSnpResp, Ok(NOTHING))),
+    (1, Does(RecvData, Ok(NOTHING))),
+    (1, Does(RecvAck, Ok(FREED))),
+    (0, Does(Issue(ReadNotSharedDirty, Slot(0)), Ok(NOTHING))),
+    (0, Comes(Ok(Arrived::Admitted(Entry(0))))),
+    (0, Does(Start, Ok(NOTHING))),
+    (1, Does(RecvSnp, Ok(NOTHING))),
+    (1, Does(RecvSnpResp, Ok(NOTHING))),
+    (0, Does(RecvData, Ok(NOTHING))),
+    (0, Does(RecvAck, Ok(FREED))),
 ];
 
 /// Two requesters and four lines in two slices, with two entries of type 0 and one of type 1.
@@ -112,11 +110,11 @@ fn calls<R: Abort + Wait>(
     ensures { IsOwn node.now requester.new }
 {
     match call {
-        Call::Comes(wanted) => {
+        Comes(wanted) => {
             let came = node.arrive(rt, requester, line);
             assert!(rt; came == wanted);
         }
-        Call::Does(step, wanted) => {
+        Does(step, wanted) => {
             assert!(rt; is_own(step));
             let agent = requester.number();
             let done = node.step(rt, requester, Action { agent, line, step });
@@ -191,11 +189,11 @@ impl BareRequester<'_> {
         let slice = &mut bare.slice;
         let requester = &mut self.requester;
         match call {
-            Call::Comes(wanted) => {
+            Comes(wanted) => {
                 let came = arrive_on(slice, self.tracker, requester, line);
                 assert!(rt; came == wanted);
             }
-            Call::Does(step, wanted) => {
+            Does(step, wanted) => {
                 assert!(rt; is_own(step));
                 let agent = requester.number();
                 let action = Action { agent, line, step };
@@ -287,4 +285,45 @@ fn locks_leave_what_calls_on_the_parts_leave(rt: HostRuntime) {
     let ended = locked.close();
     assert!(&rt; ended.len() == 2 && slices.len() == 2);
     assert!(&rt; ended[0].equals(&slices[0].slice) && ended[1].equals(&slices[1].slice));
+}
+
+/// A request of the first requester, at its own slice.
+const OWN: Step = Issue(ReadUnique, Slot(4));
+
+/// What refuses its calls beside the slice of another node then: the slice's own refusals come first, with the slot that
+/// is in use in the account.
+const FAR: [Call; 5] = [
+    Does(OWN, Err(Refusal::Pending)),
+    Does(Load(WordNo(0)), Err(Refusal::WrongState)),
+    Does(Load(WordNo(8)), Err(Refusal::OutOfRange)),
+    Does(Issue(ReadUnique, Slot(5)), Err(Refusal::NotOpen)),
+    Comes(Err(Refusal::NoFlit)),
+];
+
+/// The requester's request at its own slice is done, and at the other one each call is refused as it says.
+fn is_strange(
+    rt: &impl Abort,
+    requester: &mut BareRequester<'_>,
+    own: &mut BareSlice,
+    far: &mut BareSlice,
+) {
+    requester.call(rt, own, Line(0), Does(OWN, Ok(NOTHING)));
+    assert!(rt; agrees(&own.slice, &requester.requester));
+    for call in &FAR {
+        requester.call(rt, far, Line(0), *call);
+    }
+    assert!(rt; !agrees(&far.slice, &requester.requester));
+}
+
+#[test]
+fn a_requester_of_another_node_is_refused(rt: HostRuntime) {
+    let made = parts(rt.alloc(), &sizes(&rt));
+    let (own, tracker, requesters) = made.expect(&rt, "memory for the parts");
+    let made = parts(rt.alloc(), &sizes(&rt));
+    let (far, _, _) = made.expect(&rt, "memory for the parts");
+    let mut own = slices_of(&rt, rt.alloc(), own);
+    let mut far = slices_of(&rt, rt.alloc(), far);
+    let mut requesters = bare_of(&rt, rt.alloc(), &tracker, requesters);
+    assert!(&rt; !own.is_empty() && !far.is_empty() && !requesters.is_empty());
+    is_strange(&rt, &mut requesters[0], &mut own[0], &mut far[0]);
 }
