@@ -1,34 +1,12 @@
-//! Tests of traces through public calls alone: their grammar (`chi_trace`), their flits and what is told of them
-//! (`chi_resolution`, `chi_verdict`), and the search for explanations with its monitor (`chi_monitor`).
+//! Tests of what the program does otherwise: a trace that is read and resolved in two calls (`chi_trace`,
+//! `chi_resolution`), and monitors of lines (`chi_monitor`).
+//!
+//! What the program tells of traces is tested by `tests/traces` and `tests/rows/arguments`.
 #![tactic(auto)]
 
 #[cfg(test)]
-mod beats;
-#[cfg(test)]
-mod credits;
-#[cfg(test)]
-mod faults;
+mod calls;
 #[cfg(test)]
 mod forgetting;
 #[cfg(test)]
-mod forms;
-#[cfg(test)]
-mod grammar;
-#[cfg(test)]
-mod ids;
-#[cfg(test)]
-mod malformed;
-#[cfg(test)]
 mod monitors;
-#[cfg(test)]
-mod processors;
-#[cfg(test)]
-mod profiles;
-#[cfg(test)]
-mod reports;
-#[cfg(test)]
-mod round_trips;
-#[cfg(test)]
-mod runs;
-#[cfg(test)]
-mod traces;

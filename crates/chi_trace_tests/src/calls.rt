@@ -1,8 +1,9 @@
-//! Loads and stores, some of which wait for a CompAck.
+//! A trace that is read, and then resolved.
 
-use crate::traces::{PLAIN, resolved};
-use chi_explain::Observed;
+use chi_explain::{Observed, StoreListing};
 use chi_flit::{Agent, WordNo};
+use chi_resolution::{Options, Types, resolve};
+use chi_trace::{NodeId, lines_are_flits, numbers_are_hexadecimal, read_trace, traces_are_lines};
 use std::test::Fail;
 
 /// Of two requesters at one line one waits; so does another at another line, whose CompAck isn't seen.
@@ -19,13 +20,21 @@ DAT 40 8 1 CompData - UC 1 - - 0,0,0,0,0,0,0,0
 CPU 8 - - Load 78 - - - - 0
 ";
 
-/// Where the loads and stores stand then: by their numbers in the trace.
+/// As the program takes a trace where nothing else is asked.
+const PLAIN: Options = Options {
+    types: Types::Two,
+    early_grants: false,
+    stores: StoreListing::Partial,
+};
+
+/// Where the flits, loads and stores stand then: by their numbers in the trace.
 const ORDER: [usize; 10] = [0, 1, 3, 4, 6, 2, 5, 7, 8, 9];
 
 #[test]
 fn accesses_wait_for_their_acknowledgement(rt: HostRuntime) -> Result<(), Fail> {
-    let resolution = resolved(rt.alloc(), PLAIN, WAITING)?;
-    assert!(rt; resolution.fault.is_none());
+    let seen = read_trace(rt.alloc(), WAITING).ok().ok_or("no trace")?;
+    let resolution = resolve(rt.alloc(), &seen, PLAIN).ok().ok_or("no memory")?;
+    assert!(rt; resolution.fault.is_none() && resolution.nodes.home == Some(NodeId(0x40)));
     assert_eq!(rt; resolution.flits.len(), ORDER.len());
     for (item, at) in resolution.flits.iter().zip(&ORDER) {
         assert!(rt; item.at == *at, "{item:?}");
@@ -38,4 +47,11 @@ fn accesses_wait_for_their_acknowledgement(rt: HostRuntime) -> Result<(), Fail> 
         );
     }
     Ok(())
+}
+
+#[test]
+fn the_laws_are_called(_rt: HostRuntime) {
+    lines_are_flits();
+    numbers_are_hexadecimal();
+    traces_are_lines();
 }
