@@ -1,6 +1,6 @@
 //! How the counts of cells are written.
 
-use crate::tally::{Cell, Tally};
+use crate::tally::Tally;
 use chi_flit::NoMemory;
 use std::alloc::Allocator;
 use std::io::Write;
@@ -28,29 +28,22 @@ pub struct CoverShape {
 
 /// The text of the cells. Refused where memory runs out.
 pub(crate) fn text_of<A: Allocator + Copy>(
-    alloc: A,
     tally: &Tally<A>,
     shape: CoverShape,
 ) -> Result<Vec<u8, A>, NoMemory> {
-    let (reachable, reached) = tally.reachable();
-    let mut text = Vec::new(alloc);
+    let (of, reached) = tally.reachable();
+    let mut text = Vec::new(tally.alloc);
     match shape.form {
-        CoverForm::Lines => {
-            write_cells(&mut text, tally, shape)?;
-            writeln!(text, "covered {reached} of {reachable} cells")
-        }
-        CoverForm::Json => {
-            let head = "\"cells\":[";
-            write!(text, "{{\"covered\":{reached},\"of\":{reachable},{head}").map_err(
-                |_| NoMemory,
-            )?;
-            write_cells(&mut text, tally, shape)?;
-            writeln!(text, "\n]}}")
-        }
-        CoverForm::Tsv => {
-            writeln!(text, "section\tcell\tcount").map_err(|_| NoMemory)?;
-            return write_cells(&mut text, tally, shape).map(|()| text);
-        }
+        CoverForm::Lines => Ok(()),
+        CoverForm::Json => write!(text, "{{\"covered\":{reached},\"of\":{of},\"cells\":["),
+        CoverForm::Tsv => writeln!(text, "section\tcell\tcount"),
+    }
+    .map_err(|_| NoMemory)?;
+    write_cells(&mut text, tally, shape)?;
+    match shape.form {
+        CoverForm::Lines => writeln!(text, "covered {reached} of {of} cells"),
+        CoverForm::Json => writeln!(text, "\n]}}"),
+        CoverForm::Tsv => Ok(()),
     }
     .map_err(|_| NoMemory)?;
     Ok(text)
@@ -63,39 +56,27 @@ fn write_cells<A: Allocator + Copy>(
     shape: CoverShape,
 ) -> Result<(), NoMemory> {
     let mut is_behind = false;
+    let is_json = shape.form == CoverForm::Json;
     for (name, cell) in tally.cells.iter() {
         if !shape.only_missing || cell.count == Some(0) {
             let comma = if is_behind { "," } else { "" };
-            write_cell(text, name.as_str(), cell, shape.form, comma)?;
+            let count = match cell.count {
+                Some(count) => format!(in tally.alloc; "{count}")?,
+                None if is_json => String::from_str(tally.alloc, "null")?,
+                None => String::from_str(tally.alloc, "unreachable")?,
+            };
+            let (section, count) = (cell.section, count.as_str());
+            match shape.form {
+                CoverForm::Lines => writeln!(text, "{section}: {name}: {count}"),
+                CoverForm::Json => write!(
+                    text,
+                    "{comma}\n{{\"section\":\"{section}\",\"cell\":\"{name}\",\"count\":{count}}}"
+                ),
+                CoverForm::Tsv => writeln!(text, "{section}\t{name}\t{count}"),
+            }
+            .map_err(|_| NoMemory)?;
             is_behind = true;
         }
     }
     Ok(())
-}
-
-/// Puts the line of a cell behind the text; in JSON with the comma, if any, behind the cell before. Refused where memory
-/// runs out.
-fn write_cell<A: Allocator>(
-    text: &mut Vec<u8, A>,
-    name: &str,
-    cell: &Cell,
-    form: CoverForm,
-    comma: &str,
-) -> Result<(), NoMemory> {
-    let section = cell.section;
-    match (form, cell.count) {
-        (CoverForm::Lines, Some(count)) => writeln!(text, "{section}: {name}: {count}"),
-        (CoverForm::Lines, None) => writeln!(text, "{section}: {name}: unreachable"),
-        (CoverForm::Json, Some(count)) => write!(
-            text,
-            "{comma}\n{{\"section\":\"{section}\",\"cell\":\"{name}\",\"count\":{count}}}"
-        ),
-        (CoverForm::Json, None) => write!(
-            text,
-            "{comma}\n{{\"section\":\"{section}\",\"cell\":\"{name}\",\"count\":null}}"
-        ),
-        (CoverForm::Tsv, Some(count)) => writeln!(text, "{section}\t{name}\t{count}"),
-        (CoverForm::Tsv, None) => writeln!(text, "{section}\t{name}\tunreachable"),
-    }
-    .map_err(|_| NoMemory)
 }

@@ -36,25 +36,7 @@ impl<A: Allocator + Copy> Tally<A> {
         Ok(Tally { alloc, cells })
     }
 
-    /// One more of the cell of this text; a text of none counts nowhere. Refused where the count is too large.
-    pub(crate) fn reach(&mut self, text: &str) -> Result<(), NoMemory> {
-        self.add(text, 1)
-    }
-
-    /// One more of the cell of this text, where the condition holds. Refused where the count is too large.
-    pub(crate) fn reach_if(&mut self, holds: bool, text: &str) -> Result<(), NoMemory> {
-        if holds { self.reach(text) } else { Ok(()) }
-    }
-
-    /// One more of the cell of this text, where there is one. Refused where the count is too large.
-    pub(crate) fn reach_some(&mut self, text: Option<&str>) -> Result<(), NoMemory> {
-        match text {
-            Some(text) => self.reach(text),
-            None => Ok(()),
-        }
-    }
-
-    /// So many more of the cell of this text. Refused where the sum is too large.
+    /// So many more of the cell of this text; a text of none counts nowhere. Refused where the sum is too large.
     pub(crate) fn add(&mut self, text: &str, times: u64) -> Result<(), NoMemory> {
         let Some(cell) = self.cells.get_mut(text) else {
             return Ok(());
@@ -67,17 +49,14 @@ impl<A: Allocator + Copy> Tally<A> {
 
     /// How many cells a run may reach, and how many of them were done.
     pub(crate) fn reachable(&self) -> (usize, usize) {
-        let reachable = self.cells.values().filter(|cell| cell.count.is_some());
-        let reached = self
-            .cells
-            .values()
-            .filter(|cell| cell.count.unwrap_or(0) > 0);
-        (reachable.count(), reached.count())
+        let cells = self.cells.values().filter(|cell| cell.count.is_some());
+        let none = self.cells.values().filter(|it| it.count == Some(0));
+        let of = cells.count();
+        (of, of.saturating_sub(none.count()))
     }
 }
 
-/// Puts the cells of rows behind the others; those that are there have this count from now on. Refused where memory
-/// runs out.
+/// Puts the cells of rows behind the others, or gives those that are there this count. Refused where memory runs out.
 fn put_rows<A: Allocator + Copy>(
     alloc: A,
     cells: &mut CellTable<A>,
@@ -85,22 +64,10 @@ fn put_rows<A: Allocator + Copy>(
     count: Option<u64>,
 ) -> Result<(), AllocError> {
     for row in rows {
-        let cell = Cell {
-            section: row.section,
-            count,
-        };
-        put_texts(cells, texts_of(alloc, row.parts)?, cell)?;
-    }
-    Ok(())
-}
-
-fn put_texts<A: Allocator + Copy>(
-    cells: &mut CellTable<A>,
-    texts: Vec<String<A>, A>,
-    cell: Cell,
-) -> Result<(), AllocError> {
-    for text in texts {
-        let _ = cells.insert(text, cell)?;
+        let section = row.section;
+        for text in texts_of(alloc, row.parts)? {
+            let _ = cells.insert(text, Cell { section, count })?;
+        }
     }
     Ok(())
 }
@@ -113,22 +80,13 @@ fn texts_of<A: Allocator + Copy>(
     let mut texts = Vec::new(alloc);
     texts.push(String::new(alloc))?;
     for part in parts {
-        texts = longer(alloc, &texts, part)?;
+        let mut longer = Vec::new(alloc);
+        for text in &texts {
+            for word in part.split('|') {
+                longer.push(format!(in alloc; "{text}{word}")?)?;
+            }
+        }
+        texts = longer;
     }
     Ok(texts)
-}
-
-/// The texts with each of a part's words behind each. Refused where memory runs out.
-fn longer<A: Allocator + Copy>(
-    alloc: A,
-    texts: &[String<A>],
-    part: &str,
-) -> Result<Vec<String<A>, A>, AllocError> {
-    let mut longer = Vec::new(alloc);
-    for text in texts {
-        for word in part.split('|') {
-            longer.push(format!(in alloc; "{text}{word}")?)?;
-        }
-    }
-    Ok(longer)
 }
