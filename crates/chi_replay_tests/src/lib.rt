@@ -1,40 +1,22 @@
-//! Tests of files, of what is printed of them, of replays, checks and charts, with devices that fail and too little
-//! memory too.
+//! Tests of replays, checks and charts with devices that fail, with too little memory and of files at their limits, of the
+//! node's agreement after each command, and of calls that the program doesn't make.
+//!
+//! What is read of files and printed of them is tested by `tests/rows`, `tests/charts` and `tests/cover`.
 //!
 //! Source: `docs/FORMATS.md`.
 #![tactic(auto)]
 
 #[cfg(test)]
-mod audits;
+mod agreement;
 #[cfg(test)]
-mod chart_devices;
+mod calls;
 #[cfg(test)]
-mod charts;
+mod devices;
 #[cfg(test)]
-mod check_devices;
+mod failures;
 #[cfg(test)]
-mod check_files;
+mod files;
 #[cfg(test)]
-mod comparison;
+mod heaps;
 #[cfg(test)]
-mod coverage;
-#[cfg(test)]
-mod credits;
-#[cfg(test)]
-mod flights;
-#[cfg(test)]
-mod prints;
-#[cfg(test)]
-mod replay_files;
-#[cfg(test)]
-mod replies;
-#[cfg(test)]
-mod runs;
-#[cfg(test)]
-mod shown;
-#[cfg(test)]
-mod storm_files;
-#[cfg(test)]
-mod suites;
-#[cfg(test)]
-mod totals;
+mod jobs;
