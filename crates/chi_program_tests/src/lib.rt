@@ -1,15 +1,7 @@
-//! Tests of the program's parts: replays from an input to an output, and the ways to stop.
+//! Tests of the ways in which the program stops.
 //!
 //! Source: `docs/FORMATS.md`, "The program".
 #![tactic(auto)]
 
-#[cfg(test)]
-mod comparison;
-#[cfg(test)]
-mod devices;
-#[cfg(test)]
-mod replays;
-#[cfg(test)]
-mod scarce;
 #[cfg(test)]
 mod stops;

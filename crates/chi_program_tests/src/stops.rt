@@ -1,6 +1,5 @@
 //! Each way in which the program stops, its line and its status.
 
-use crate::comparison::same;
 use chi_program::{ArgFault, Stop, arguments};
 use chi_script::Fault;
 use std::alloc::AllocError;
@@ -13,27 +12,51 @@ const BAD: [&[&str]; 3] = [
 ];
 
 #[test]
-fn bad_arguments_are_told(rt: HostRuntime) {
+fn bad_arguments_are_told(rt: HostRuntime) -> Result<(), AllocError> {
     for words in BAD {
-        let bad = arguments(rt.alloc(), words).err();
-        same(&rt, bad, Some(ArgFault::Bad));
+        assert!(rt; arguments(rt.alloc(), words).err() == Some(ArgFault::Bad));
     }
+    let stops = [
+        (ArgFault::Bad, 4, "chihome: bad arguments"),
+        (ArgFault::NoMemory, 3, "chihome: out of memory"),
+    ];
+    for (fault, status, line) in stops {
+        let stop = Stop::from(fault);
+        let text = format!(in rt.alloc(); "{stop}")?;
+        assert!(rt; text.as_str() == line && stop.status() == status, "{line}");
+    }
+    Ok(())
 }
 
+/// Each fault, its status and its line.
+const FAULTS: [(Fault, u8, &str); 7] = [
+    (Fault::NoMemory, 3, "chihome: out of memory"),
+    (Fault::BadHeader(1), 1, "chihome: line 1: bad header"),
+    (Fault::BadCommand(2), 1, "chihome: line 2: bad command"),
+    (
+        Fault::MissingNewline(30),
+        1,
+        "chihome: line 30: missing newline",
+    ),
+    (Fault::TooLarge, 1, "chihome: file too large"),
+    (Fault::Read, 1, "chihome: cannot read"),
+    (Fault::Write, 1, "chihome: cannot write"),
+];
+
 #[test]
-fn a_stop_is_a_line_and_a_status(rt: HostRuntime) -> Result<(), AllocError> {
-    let stops = [
-        (Stop::from(ArgFault::Bad), 4, "chihome: bad arguments"),
-        (Stop::from(ArgFault::NoMemory), 3, "chihome: out of memory"),
-        (Stop::from(Fault::NoMemory), 3, "chihome: out of memory"),
-        (Stop::from(Fault::Read), 1, "chihome: cannot read"),
-        (Stop::from(Fault::Write), 1, "chihome: cannot write"),
-        (Stop::from(Fault::TooLarge), 1, "chihome: file too large"),
-    ];
-    for (stop, status, line) in stops {
-        let text = format!(in rt.alloc(); "{stop}")?;
-        same(&rt, text.as_str(), line);
-        assert_eq!(rt; stop.status(), status, "{line}");
+fn a_fault_is_a_line_and_a_status(rt: HostRuntime) -> Result<(), AllocError> {
+    for (fault, status, line) in &FAULTS {
+        let told = format!(in rt.alloc(); "{fault}")?;
+        assert!(rt;
+            told.as_str() == *line && fault.status() == *status,
+            "{line}"
+        );
+        let stop = Stop::from(*fault);
+        let told = format!(in rt.alloc(); "{stop}")?;
+        assert!(rt;
+            told.as_str() == *line && stop.status() == *status,
+            "{line}"
+        );
     }
     Ok(())
 }
