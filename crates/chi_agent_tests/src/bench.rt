@@ -38,13 +38,6 @@ pub fn eight_sizes(rt: &impl Abort) -> Config
     Config::new(8, 8, 8, 1, 1, 16).expect(rt, "sizes in their limits")
 }
 
-/// One requester and one line, with an entry of each of two types.
-pub fn one_size(rt: &impl Abort) -> Config
-    ensures { result ≡ two_types 1 1 1 1 1 4 }
-{
-    Config::new(1, 1, 1, 1, 1, 4).expect(rt, "sizes in their limits")
-}
-
 /// A node of that size, and its requesters.
 #[tactic(auto, using(chi_agent::proofs::Numbers::are_numbered))]
 pub fn node_of(

@@ -1,7 +1,7 @@
 //! A request that is cancelled in a storm.
 
-use crate::bench::{eight_sizes, node_of, on, ran};
-use chi_agent::{Ended, Gate};
+use crate::bench::{SEED, eight_sizes, node_of, on, opened};
+use chi_agent::{Ended, Gate, run_agents};
 use chi_audit::Report;
 use chi_flit::{Agent, Line, Operation, Task, WordNo};
 use chi_node::Node;
@@ -119,6 +119,7 @@ fn a_storm_goes_on_behind_a_cancelled_request(rt: HostRuntime) {
     let (node, requesters) = node_of(&rt, rt.alloc(), &eight_sizes(&rt));
     let (even, odd) = (twice(0, 1), twice(1, 0));
     let all = [even, odd, even, odd, even, odd, even, odd];
+    let (tallies, scripts, _watcher) = opened(&rt, rt.alloc(), 8, &all);
     let gate = Rounds {
         rt: &rt,
         node: &node,
@@ -126,7 +127,18 @@ fn a_storm_goes_on_behind_a_cancelled_request(rt: HostRuntime) {
         retried: AtomicU64::new(0),
         cancelled: AtomicBool::new(false),
     };
-    let (ended, _, _) = ran(&rt, rt.alloc(), &node, requesters, &all, 10_000_000, &gate);
+    let ran = run_agents(
+        &rt,
+        rt.alloc(),
+        &node,
+        &tallies,
+        requesters,
+        scripts,
+        SEED,
+        10_000_000,
+        &gate,
+    );
+    let ended = ran.expect(&rt, "memory and threads for agents");
     assert!(rt; gate.cancelled.load(Ordering::SeqCst));
     assert!(rt; have_finished(&ended));
 }

@@ -3,8 +3,8 @@
 ghost use Rattle.std.specs.Prelude.{◌≡◌};
 ghost use Rattle.chi_slice.specs.Words.{two_types};
 
-use crate::bench::{node_of, on, one_size, ran};
-use chi_agent::Gate;
+use crate::bench::{SEED, node_of, on, opened, ran};
+use chi_agent::{Gate, run_agents};
 use chi_audit::Report;
 use chi_flit::{Agent, Operation, Task, WordNo};
 use chi_node::Node;
@@ -124,16 +124,35 @@ impl Gate for Glance<'_> {
     }
 }
 
+/// One requester and one line, with an entry of each of two types.
+fn one(rt: &impl Abort) -> Config
+    ensures { result ≡ two_types 1 1 1 1 1 4 }
+{
+    Config::new(1, 1, 1, 1, 1, 4).expect(rt, "sizes in their limits")
+}
+
 // In the first turn the request is issued. In the second it arrives, and takes the entry.
 #[test]
 fn the_gate_is_passed_before_the_turn(rt: HostRuntime) {
-    let (node, requesters) = node_of(&rt, rt.alloc(), &one_size(&rt));
+    let (node, requesters) = node_of(&rt, rt.alloc(), &one(&rt));
     let all = [[on(0, Task::Load(WordNo(0)))]];
+    let (tallies, scripts, _watcher) = opened(&rt, rt.alloc(), 1, &all);
     let gate = Glance {
         node: &node,
         free: AtomicU64::new(9),
     };
-    ran(&rt, rt.alloc(), &node, requesters, &all, 2, &gate);
+    let ended = run_agents(
+        &rt,
+        rt.alloc(),
+        &node,
+        &tallies,
+        requesters,
+        scripts,
+        SEED,
+        2,
+        &gate,
+    );
+    assert!(rt; ended.is_ok());
     assert_eq!(rt; gate.free.load(Ordering::SeqCst), 1);
     assert_eq!(rt; node.tracker().glance().free[0], 0);
 }

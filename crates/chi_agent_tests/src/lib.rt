@@ -19,6 +19,8 @@ mod guests;
 #[cfg(test)]
 mod isolation;
 #[cfg(test)]
+mod plays;
+#[cfg(test)]
 mod races;
 #[cfg(test)]
 mod reports;

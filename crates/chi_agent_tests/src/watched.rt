@@ -1,19 +1,22 @@
 //! A tally that is read while its agent is held at a gate.
 
 ghost use Rattle.std.specs.Prelude.{◌≡◌, ◌<◌, length, map, vec_len};
+ghost use Rattle.chi_slice.specs.Words.{two_types};
 ghost use Rattle.chi_node.specs.Node.{AreOwn};
 ghost use Rattle.chi_audit.specs.Tallies.{reader_cell};
 ghost use Rattle.chi_audit.specs.Numbers.{numbers};
 ghost use Rattle.chi_agent.specs.Ended.{requester_number};
 ghost use Rattle.chi_agent.specs.Script.{writer_of, AreFresh};
 
-use crate::bench::{node_of, on, one_size, opened};
+use crate::bench::{node_of, on, opened};
 use arrayvec::ArrayVec;
 use chi_agent::{Gate, Script, run_agents};
 use chi_audit::{Tallies, Tally, Watcher};
 use chi_flit::{Agent, Task, WordNo};
 use chi_node::{Node, Requester};
+use chi_slice::Config;
 use std::alloc::Global;
+use std::process::Abort;
 use std::sync::Wait;
 use std::sync::atomic::{AtomicBool, Ordering};
 use std::thread;
@@ -38,6 +41,13 @@ impl Gate for Hold {
             thread::yield_now();
         }
     }
+}
+
+/// One requester and one line, with an entry of each of two types.
+fn sizes(rt: &impl Abort) -> Config
+    ensures { result ≡ two_types 1 1 1 1 1 4 }
+{
+    Config::new(1, 1, 1, 1, 1, 4).expect(rt, "sizes in their limits")
 }
 
 /// Reads the tally until the agent did two turns, and opens the gate.
@@ -101,7 +111,7 @@ fn runs_and_reads<R: Threads + Wait + Clock + Sync>(
 
 #[test]
 fn tally_read_while_held(rt: HostRuntime) {
-    let (node, requesters) = node_of(&rt, rt.alloc(), &one_size(&rt));
+    let (node, requesters) = node_of(&rt, rt.alloc(), &sizes(&rt));
     let all = [[on(0, Task::Load(WordNo(0)))]];
     let (tallies, scripts, watcher) = opened(&rt, rt.alloc(), 1, &all);
     let gate = Hold {
@@ -112,5 +122,7 @@ fn tally_read_while_held(rt: HostRuntime) {
         &rt, alloc, &node, &tallies, requesters, scripts, watcher, &gate,
     );
     assert!(rt; ran);
-    assert!(rt; (tally.turns, tally.loads, tally.stores) == (2, 0, 0));
+    assert_eq!(rt; tally.turns, 2);
+    assert_eq!(rt; tally.loads, 0);
+    assert_eq!(rt; tally.stores, 0);
 }
