@@ -514,7 +514,8 @@ impl Line {
         requires may { (n : ℕ) (h : HeldOf) → members (may_at may.now n) h
             ≡ given_of flit (observed self.now).public (members (may_at self.now.may n)) h }
         ensures takes { is_ok result ≡ takes_home (observed self.now) flit }
-        ensures why { IfErr result (λ reason. due_refusal (observed self.now) flit (copy_refusal (observed self.now) flit) ≡ Some reason) }
+        ensures why { IfErr result (λ reason. due_refusal (observed self.now) flit
+            (copy_refusal (observed self.now) flit) ≡ Some reason) }
     {
         match self.may_give(flit) {
             Err(reason) => Err(reason),

@@ -79,7 +79,7 @@ fn write_late_line<A: Allocator>(
     write_late_at(text, line, why_of(lines, line))
 }
 
-/// The same of each cause.
+/// Puts behind the text why the first line of each cause was set aside.
 fn write_late_lines<A: Allocator>(
     text: &mut String<A>,
     lines: &LineTable<A>,

@@ -45,7 +45,7 @@ fn write_id<A: Allocator>(text: &mut String<A>, id: &OpenId) -> Result<(), Alloc
     write_key(text, id.line, id.key)
 }
 
-/// The same of an id with this key, of this line.
+/// Puts the line on an open id with this key behind the text; it is of this cache line.
 fn write_key<A: Allocator>(
     text: &mut String<A>,
     line: CacheLine,

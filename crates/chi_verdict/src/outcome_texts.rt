@@ -45,7 +45,7 @@ pub(crate) fn write_cut<A: Allocator>(
     }
 }
 
-/// The same in a check file, in which it is a comment.
+/// The line on a last line that is cut, as a comment of a check file.
 pub(crate) fn cut_comment<A: Allocator>(alloc: A, cut: Option<usize>) -> Result<String<A>, NoMemory>
     ensures { IfOk result (λ text. string_bytes text ≡ cut_comment cut) }
 {
