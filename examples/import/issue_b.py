@@ -34,9 +34,8 @@ NAMES: Dict[str, List[str]] = {channel: names.split() for channel, names in OPCO
 RESPS = "I SC UC UD I_PD SC_PD UD_PD SD_PD".split()
 ANSWERS = "I SC UC SD I_PD SC_PD UC_PD UD_PD".split()
 
-# What has a RESP, a DBID and a credit type in a trace; requests have theirs by AllowRetry.
+# What has a RESP in a trace, and what has none of an id and an address.
 WITH_RESP = {"Comp", "SnpResp", "CompData", "SnpRespData", "CopyBackWrData", "NonCopyBackWrData"}
-WITH_DBID = {"CompDBIDResp", "CompData", "DBIDResp", "ReadReceipt"}
 WITHOUT_TXN = {"PCrdReturn", "PCrdGrant"}
 # Whose completion no CompAck follows in what is judged: where ExpCompAck asks for one, the line isn't judged.
 WITHOUT_COMP_ACK = {"ReadOnce", "CleanShared", "CleanInvalid", "MakeInvalid", "Evict", "WriteBackFull", "WriteCleanFull", "WriteEvictFull",
@@ -134,6 +133,24 @@ def as_judged(opcode: str, resp_err: int = 0, excl: int = 0, exp_comp_ack: int =
     return f"{opcode}ExpCompAck" if exp_comp_ack and opcode in WITHOUT_COMP_ACK else opcode
 
 
+def is_request(channel: str, opcode: str) -> bool:
+    """Whether a flit has AllowRetry and what else a request has."""
+    return channel == "REQ" and opcode not in WITHOUT_TXN
+
+
+def has_address(channel: str, opcode: str) -> bool:
+    return channel in ("SNP", "CPU") or is_request(channel, opcode)
+
+
+def has_dbid(opcode: str, resp: str) -> bool:
+    return opcode in ("CompDBIDResp", "CompData", "DBIDResp", "ReadReceipt") or (opcode == "Comp" and resp == "UC")
+
+
+def has_credit(opcode: str, allow_retry: int) -> bool:
+    """Whether a flit has a credit type: a request where AllowRetry is 0."""
+    return opcode in ("RetryAck", "PCrdGrant", "PCrdReturn") or not allow_retry
+
+
 def is_of_links(opcode: str) -> bool:
     """Whether a flit returns a credit of the link layer, and is none of the protocol's."""
     return opcode.endswith("LCrdReturn")
@@ -145,14 +162,13 @@ def spelled(words: Optional[List[Optional[int]]]) -> str:
 
 def line_of(flit: Flit, time: str = "") -> str:
     """The line of a trace for a flit. Behind its columns stands the time, which isn't read."""
-    is_request, has_line = flit.channel == "REQ" and flit.opcode != "PCrdReturn", flit.channel in ("REQ", "SNP")
-    has_credit = flit.opcode in ("RetryAck", "PCrdGrant", "PCrdReturn") or (is_request and not flit.allow_retry)
-    has_dbid = flit.opcode in WITH_DBID or (flit.opcode == "Comp" and flit.resp == "UC")
+    is_of_cpu = flit.channel == "CPU"
     columns = [
-        flit.channel, f"{flit.source:x}", "-" if flit.channel == "CPU" else f"{flit.target:x}",
-        "-" if flit.channel == "CPU" or flit.opcode in WITHOUT_TXN else f"{flit.txn:x}", flit.opcode,
-        f"{flit.address:x}" if (has_line and flit.opcode != "PCrdReturn") or flit.channel == "CPU" else "-",
-        flit.resp if flit.opcode in WITH_RESP else "-", f"{flit.dbid:x}" if has_dbid and flit.dbid is not None else "-",
-        str(flit.allow_retry) if is_request else "-", f"{flit.credit:x}" if has_credit else "-", spelled(flit.words),
+        flit.channel, f"{flit.source:x}", "-" if is_of_cpu else f"{flit.target:x}",
+        "-" if is_of_cpu or flit.opcode in WITHOUT_TXN else f"{flit.txn:x}", flit.opcode,
+        f"{flit.address:x}" if has_address(flit.channel, flit.opcode) else "-", flit.resp if flit.opcode in WITH_RESP else "-",
+        f"{flit.dbid:x}" if flit.dbid is not None and has_dbid(flit.opcode, flit.resp) else "-",
+        str(flit.allow_retry) if is_request(flit.channel, flit.opcode) else "-",
+        f"{flit.credit:x}" if has_credit(flit.opcode, flit.allow_retry) else "-", spelled(flit.words),
     ]
     return " ".join([*columns, time]).rstrip()
