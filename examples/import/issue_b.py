@@ -33,6 +33,7 @@ NAMES: Dict[str, List[str]] = {channel: names.split() for channel, names in OPCO
 # Resp by number: of completions and write data, and of answers to snoops. In data that answer a snoop 2 is UC or UD.
 RESPS = "I SC UC UD I_PD SC_PD UD_PD SD_PD".split()
 ANSWERS = "I SC UC SD I_PD SC_PD UC_PD UD_PD".split()
+UNIQUE_ANSWERS = ["UC", "UD"]
 
 # What has a RESP in a trace, and what has none of an id and an address.
 WITH_RESP = {"Comp", "SnpResp", "CompData", "SnpRespData", "CopyBackWrData", "NonCopyBackWrData"}
@@ -103,13 +104,13 @@ def opcode_of(channel: str, number: int) -> str:
     return names[number]
 
 
-def resp_of(opcode: str, number: int, unique_answer: Optional[str]) -> str:
-    """The RESP of a number; `unique_answer` is what 2 is of SnpRespData, UC or UD."""
+def resp_of(opcode: str, number: int, unique_answer: str) -> str:
+    """The RESP of a number; `unique_answer` is what 2 is of SnpRespData, UC or UD, or nothing."""
     if number > 7:
         raise Refused(f"Resp {number:x}: it has three bits")
     if opcode == "SnpRespData" and number == 2:
-        if unique_answer is None:
-            raise Refused("Resp 2 of SnpRespData is UC or UD: `unique answer` says which your caches give")
+        if not unique_answer:
+            raise Refused("Resp 2 of SnpRespData is UC or UD: unique_answer says which your caches give")
         return unique_answer
     return (ANSWERS if opcode.startswith("Snp") else RESPS)[number]
 
