@@ -1,5 +1,5 @@
 -- Each world right behind a flit of a cache comes from one before.
-use Rattle.std.proofs.Common.{rules, arith, ◌≡◌, ◌≢◌, ℕ, ◌<◌, zero, suc, refl, sym, ap, subst, ◌∙◌, eq-eqb}
+use Rattle.std.proofs.Common.{rules, arith, ◌≡◌, ◌≢◌, ℕ, ◌<◌, suc, refl, sym, ap, subst, ◌∙◌, eq-eqb}
 use Rattle.std.specs.Prelude.{Bool, true, false, ◌&&◌, ◌||◌, ◌==◌, not, Option, Some, None, List, if◌then◌else◌}
 use Rattle.std.proofs.lemmas.Bool.{eqb-true}
 use Rattle.chi_observer.specs.declared.flits.Due.{Due}
@@ -14,11 +14,11 @@ use Rattle.chi_observer.specs.Copies.Copy.{UniqueDirty, Writing}
 use Rattle.chi_observer.specs.Rules.{are_hidden, is_resending, gives_up, has_data, writes, tells_words, looks, stores, is_request, lets_go, due_after, word_at, allows, throws}
 use Rattle.chi_copies.specs.Copies.{Held, Copies, is_fresh, is_newer, beside, leaves, same_held, any_bool, any_held}
 use Rattle.chi_copies.specs.Rules.{may_store, may_hide, is_due_data, lets, row, acts, loses, stored_to}
-use Rattle.chi_copies.specs.Worlds.{World, Words, Same, Shown, StoresWord, Stored, has_word, is_placed, makes_value, put, all_below}
+use Rattle.chi_copies.specs.Worlds.{World, Words, Same, Shown, StoresWord, Stored, has_word, is_placed, makes_value, put}
 use Rattle.chi_copies.specs.Observed.{Observed, Sound, Meaning, has_news, home_at, fits_at, differs_at, fits_each, known_of, may_own, sends, sent, takes, moved, no_words, known_before, stores_from, forgets, news_by, news_after, of_eight}
 use Rattle.chi_copies.specs.Laws.{ComesBy, MeaningComes}
 use Rattle.chi_copies.proofs.Eight.{eight_is}
-use Rattle.chi_copies.proofs.Finite.{no, left, right, both, by_truth, by_false, turned, flip, in_bool, in_held, out_held, none_held}
+use Rattle.chi_copies.proofs.Finite.{all_out, no, left, right, both, by_truth, by_false, turned, flip, in_bool, in_held, out_held, none_held}
 use Rattle.chi_copies.proofs.Rows.{is_store_row, RowFacts, same_held_is, some_is, is_leaves}
 use Rattle.chi_copies.proofs.Means.{same_refl, same_by, same_sym, same_trans, sane, none_stored, none_newer, alone_data, free_stores}
 use Rattle.chi_copies.proofs.Moved.{if_some, Came, came, own_but, others_after, others_if, empty_at, quiet_at, sent_by, came_by}
@@ -28,17 +28,6 @@ use Rattle.chi_copies.proofs.Prior.{Prior, prior, prior_has, prior_is, prior_if,
 use Rattle.chi_copies.proofs.Put.{differ, here, there, split}
 
 -- WORDS
-below_but : (p k : ℕ) → p < suc k → p ≢ k → p < k
-below_but p k l g = omega arith
-
-pub all_out : (k : ℕ) (f : ℕ → Bool) → all_below k f ≡ true → (p : ℕ) → p < k → f p ≡ true
-all_out zero f h p l = absurd (omega arith)
-all_out (suc k) f h p l = by (p == k) refl (λ g. all_out k f (right (f k) _ h) p g)
-  where
-    by : (b : Bool) → (p == k) ≡ b → (p < k → f p ≡ true) → f p ≡ true
-    by true e g = subst (λ x. f x ≡ true) (sym (eqb-true p k e)) (left (f k) _ h)
-    by false e g = g (below_but p k l (differ p k e))
-
 fits_out : (o : Option ℕ) (v u : ℕ) → fits_at o v ≡ true → o ≡ Some u → u ≡ v
 fits_out None v u h e = absurd (none_some_nat u e)
 fits_out (Some x) v u h e = sym (some_nat x u e) ∙ eqb-true x v h

@@ -1,16 +1,19 @@
 -- What holds of each of a few values is found by trying each; what a set has.
-use Rattle.std.proofs.Common.{rules, arith, ◌≡◌, refl, sym, ◌∙◌}
-use Rattle.std.specs.Prelude.{Bool, true, false, ◌&&◌, ◌||◌, not, if◌then◌else◌}
+use Rattle.std.proofs.Common.{rules, arith, ◌≡◌, ℕ, suc, zero, ◌<◌, ◌≢◌, refl, sym, ◌∙◌, subst}
+use Rattle.std.proofs.lemmas.Bool.{eqb-true}
+use Rattle.std.specs.Prelude.{Bool, true, false, ◌&&◌, ◌||◌, ◌==◌, not, if◌then◌else◌}
 use Rattle.chi_flit.specs.declared.state.State.{State}
 use Rattle.chi_flit.specs.declared.state.State.TheVariants as states
 use Rattle.chi_observer.specs.declared.kinds.Snoop.{Snoop}
 use Rattle.chi_observer.specs.declared.kinds.Snoop.TheVariants.{SnpOnce, SnpClean, SnpShared, SnpNotSharedDirty, SnpCleanShared, SnpUnique, SnpCleanInvalid, SnpMakeInvalid}
 use Rattle.chi_observer.specs.declared.kinds.Kind.{Kind}
-use Rattle.chi_observer.specs.declared.kinds.Kind.TheVariants.{ReadNotSharedDirty, ReadShared, ReadClean, ReadOnce, ReadUnique, CleanUnique, MakeUnique, CleanShared, CleanInvalid, MakeInvalid, Evict, WriteBackFull, WriteCleanFull, WriteEvictFull, WriteUniqueFull}
 use Rattle.chi_observer.specs.declared.flits.Answer.{Answer}
 use Rattle.chi_observer.specs.declared.flits.Answer.TheVariants.{SnpRespI, SnpRespSC, SnpRespUC, SnpRespDataI, SnpRespDataSC, SnpRespDataUC, SnpRespDataUD, SnpRespDataSD, SnpRespDataIPD, SnpRespDataSCPD, SnpRespDataUCPD}
 use Rattle.chi_observer.specs.Copies.{Copy}
 use Rattle.chi_observer.specs.Copies.Copy.{Invalid, SharedClean, UniqueClean, UniqueEmpty, UniqueDirty, SharedDirty, Writing}
+use Rattle.chi_copies.specs.Dues.{kind_at, number_of}
+use Rattle.chi_copies.specs.Worlds.{all_below}
+use Rattle.chi_copies.proofs.Put.{differ}
 use Rattle.chi_copies.specs.Copies.{Held, Copies, any_bool, any_copy, any_held, image}
 
 impossible : false ≡ true → ⊥
@@ -97,25 +100,27 @@ each_snoop f h SnpUnique = left (f SnpUnique) _ (right (f SnpCleanShared) _ (rig
 each_snoop f h SnpCleanInvalid = left (f SnpCleanInvalid) _ (right (f SnpUnique) _ (right (f SnpCleanShared) _ (right (f SnpNotSharedDirty) _ (right (f SnpShared) _ (right (f SnpClean) _ (right (f SnpOnce) _ h))))))
 each_snoop f h SnpMakeInvalid = right (f SnpCleanInvalid) _ (right (f SnpUnique) _ (right (f SnpCleanShared) _ (right (f SnpNotSharedDirty) _ (right (f SnpShared) _ (right (f SnpClean) _ (right (f SnpOnce) _ h))))))
 
+-- what holds of each number below one
+below_but : (p k : ℕ) → p < suc k → p ≢ k → p < k
+below_but p k l g = omega arith
+
+pub all_out : (k : ℕ) (f : ℕ → Bool) → all_below k f ≡ true → (p : ℕ) → p < k → f p ≡ true
+all_out zero f h p l = absurd (omega arith)
+all_out (suc k) f h p l = by (p == k) refl (λ g. all_out k f (right (f k) _ h) p g)
+  where
+    by : (b : Bool) → (p == k) ≡ b → (p < k → f p ≡ true) → f p ≡ true
+    by true e g = subst (λ x. f x ≡ true) (sym (eqb-true p k e)) (left (f k) _ h)
+    by false e g = g (below_but p k l (differ p k e))
+
+-- the kinds have numbers below 16
+kind_is : (k : Kind) → (kind_at (number_of k) ≡ k) × (number_of k < 16)
+kind_is k = (grind arith, grind arith)
+
 abbrev pub all_kinds : (Kind → Bool) → Bool
-all_kinds f = f ReadNotSharedDirty && (f ReadShared && (f ReadClean && (f ReadOnce && (f ReadUnique && (f CleanUnique && (f MakeUnique && (f CleanShared && (f CleanInvalid && (f MakeInvalid && (f Evict && (f WriteBackFull && (f WriteCleanFull && (f WriteEvictFull && (f WriteUniqueFull))))))))))))))
+all_kinds f = all_below 16 (λ k. f (kind_at k))
 
 pub each_kind : (f : Kind → Bool) → all_kinds f ≡ true → (x : Kind) → f x ≡ true
-each_kind f h ReadNotSharedDirty = left (f ReadNotSharedDirty) _ h
-each_kind f h ReadShared = left (f ReadShared) _ (right (f ReadNotSharedDirty) _ h)
-each_kind f h ReadClean = left (f ReadClean) _ (right (f ReadShared) _ (right (f ReadNotSharedDirty) _ h))
-each_kind f h ReadOnce = left (f ReadOnce) _ (right (f ReadClean) _ (right (f ReadShared) _ (right (f ReadNotSharedDirty) _ h)))
-each_kind f h ReadUnique = left (f ReadUnique) _ (right (f ReadOnce) _ (right (f ReadClean) _ (right (f ReadShared) _ (right (f ReadNotSharedDirty) _ h))))
-each_kind f h CleanUnique = left (f CleanUnique) _ (right (f ReadUnique) _ (right (f ReadOnce) _ (right (f ReadClean) _ (right (f ReadShared) _ (right (f ReadNotSharedDirty) _ h)))))
-each_kind f h MakeUnique = left (f MakeUnique) _ (right (f CleanUnique) _ (right (f ReadUnique) _ (right (f ReadOnce) _ (right (f ReadClean) _ (right (f ReadShared) _ (right (f ReadNotSharedDirty) _ h))))))
-each_kind f h CleanShared = left (f CleanShared) _ (right (f MakeUnique) _ (right (f CleanUnique) _ (right (f ReadUnique) _ (right (f ReadOnce) _ (right (f ReadClean) _ (right (f ReadShared) _ (right (f ReadNotSharedDirty) _ h)))))))
-each_kind f h CleanInvalid = left (f CleanInvalid) _ (right (f CleanShared) _ (right (f MakeUnique) _ (right (f CleanUnique) _ (right (f ReadUnique) _ (right (f ReadOnce) _ (right (f ReadClean) _ (right (f ReadShared) _ (right (f ReadNotSharedDirty) _ h))))))))
-each_kind f h MakeInvalid = left (f MakeInvalid) _ (right (f CleanInvalid) _ (right (f CleanShared) _ (right (f MakeUnique) _ (right (f CleanUnique) _ (right (f ReadUnique) _ (right (f ReadOnce) _ (right (f ReadClean) _ (right (f ReadShared) _ (right (f ReadNotSharedDirty) _ h)))))))))
-each_kind f h Evict = left (f Evict) _ (right (f MakeInvalid) _ (right (f CleanInvalid) _ (right (f CleanShared) _ (right (f MakeUnique) _ (right (f CleanUnique) _ (right (f ReadUnique) _ (right (f ReadOnce) _ (right (f ReadClean) _ (right (f ReadShared) _ (right (f ReadNotSharedDirty) _ h))))))))))
-each_kind f h WriteBackFull = left (f WriteBackFull) _ (right (f Evict) _ (right (f MakeInvalid) _ (right (f CleanInvalid) _ (right (f CleanShared) _ (right (f MakeUnique) _ (right (f CleanUnique) _ (right (f ReadUnique) _ (right (f ReadOnce) _ (right (f ReadClean) _ (right (f ReadShared) _ (right (f ReadNotSharedDirty) _ h)))))))))))
-each_kind f h WriteCleanFull = left (f WriteCleanFull) _ (right (f WriteBackFull) _ (right (f Evict) _ (right (f MakeInvalid) _ (right (f CleanInvalid) _ (right (f CleanShared) _ (right (f MakeUnique) _ (right (f CleanUnique) _ (right (f ReadUnique) _ (right (f ReadOnce) _ (right (f ReadClean) _ (right (f ReadShared) _ (right (f ReadNotSharedDirty) _ h))))))))))))
-each_kind f h WriteEvictFull = left (f WriteEvictFull) _ (right (f WriteCleanFull) _ (right (f WriteBackFull) _ (right (f Evict) _ (right (f MakeInvalid) _ (right (f CleanInvalid) _ (right (f CleanShared) _ (right (f MakeUnique) _ (right (f CleanUnique) _ (right (f ReadUnique) _ (right (f ReadOnce) _ (right (f ReadClean) _ (right (f ReadShared) _ (right (f ReadNotSharedDirty) _ h)))))))))))))
-each_kind f h WriteUniqueFull = right (f WriteEvictFull) _ (right (f WriteCleanFull) _ (right (f WriteBackFull) _ (right (f Evict) _ (right (f MakeInvalid) _ (right (f CleanInvalid) _ (right (f CleanShared) _ (right (f MakeUnique) _ (right (f CleanUnique) _ (right (f ReadUnique) _ (right (f ReadOnce) _ (right (f ReadClean) _ (right (f ReadShared) _ (right (f ReadNotSharedDirty) _ h)))))))))))))
+each_kind f h x = subst (λ k. f k ≡ true) (kind_is x).0 (all_out 16 (λ k. f (kind_at k)) h (number_of x) (kind_is x).1)
 
 abbrev pub all_copies : (Copy → Bool) → Bool
 all_copies f = f Invalid && (f SharedClean && (f UniqueClean && (f UniqueEmpty && (f UniqueDirty && (f SharedDirty && (f Writing))))))

@@ -45,7 +45,7 @@ none_asked CompSC x = refl
 none_asked CompI x = refl
 none_asked CompDBIDResp x = refl
 
-unasked : (g : Grant) (k : Kind) (q : Option Snoop) → is_completed g k q ≡ true → is_completed g k None ≡ true
+pub unasked : (g : Grant) (k : Kind) (q : Option Snoop) → is_completed g k q ≡ true → is_completed g k None ≡ true
 unasked g k None e = e
 unasked g k (Some x) e = follow (is_completed g k (Some x)) _ (each_kind (λ k. implies (is_completed g k (Some x)) (is_completed g k None)) (none_asked g x) k) e
 

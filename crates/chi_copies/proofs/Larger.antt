@@ -29,14 +29,14 @@ use Rattle.chi_copies.proofs.Sets.{each_below}
 use Rattle.chi_copies.proofs.Put.{everywhere}
 
 -- WORDS OF WHICH LESS IS KNOWN
-abbrev LessKnown : Option ℕ → Option ℕ → Type 0
+abbrev pub LessKnown : Option ℕ → Option ℕ → Type 0
 LessKnown x y = (v : ℕ) → y ≡ Some v → x ≡ Some v
 
-fits_less : (x y : Option ℕ) (v : ℕ) → LessKnown x y → fits_at x v ≡ true → fits_at y v ≡ true
+pub fits_less : (x y : Option ℕ) (v : ℕ) → LessKnown x y → fits_at x v ≡ true → fits_at y v ≡ true
 fits_less x None v h e = refl
 fits_less x (Some u) v h e = subst (λ z. fits_at z v ≡ true) (h u refl) e
 
-differs_less : (x y : Option ℕ) (v : ℕ) → LessKnown x y → differs_at x v ≡ true → differs_at y v ≡ true
+pub differs_less : (x y : Option ℕ) (v : ℕ) → LessKnown x y → differs_at x v ≡ true → differs_at y v ≡ true
 differs_less x None v h e = refl
 differs_less x (Some u) v h e = subst (λ z. differs_at z v ≡ true) (h u refl) e
 
@@ -54,7 +54,7 @@ own_less (Store word) k l own h e = e
 each_less : (k l : ℕ → Option ℕ) (v : Words) → ((p : ℕ) → LessKnown (k p) (l p)) → fits_each k v ≡ true → fits_each l v ≡ true
 each_less k l v h e = all_by 8 (λ p. fits_at (l p) (v p)) (λ p low. fits_less (k p) (l p) (v p) (h p) (each_below 8 (λ p. fits_at (k p) (v p)) e p low))
 
-or_less : (d a b : Bool) → (a ≡ true → b ≡ true) → (d || a) ≡ true → (d || b) ≡ true
+pub or_less : (d a b : Bool) → (a ≡ true → b ≡ true) → (d || a) ≡ true → (d || b) ≡ true
 or_less true a b h e = refl
 or_less false a b h e = h e
 

@@ -3,8 +3,10 @@ mod Put
 mod Eight
 mod Sets
 mod Bits
+mod Counted
 mod DueBytes
 mod Lines
+mod BegunLines
 mod Rows
 mod Means
 mod Closing
@@ -27,3 +29,12 @@ mod Followed
 mod Values
 mod Larger
 mod Refusals
+mod TailUnder
+mod TailSets
+mod TailFollows
+mod TailSent
+mod TailGiven
+mod TailLeft
+mod TailMoments
+mod TailRuns
+mod BegunTaken

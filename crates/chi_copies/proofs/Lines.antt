@@ -254,7 +254,7 @@ loosened s agent n d m left e low hd hm hl =
     refl refl
 
 -- A FLIT OF THE HOME
-given_others : (b : Bool) (may : List CopiesCode) (n : ℕ) (k : Held) → others_may b may n k ≡ image (λ h k. same_held (if b then shown_of h else h) k) (members (may_at may n)) k
+pub given_others : (b : Bool) (may : List CopiesCode) (n : ℕ) (k : Held) → others_may b may n k ≡ image (λ h k. same_held (if b then shown_of h else h) k) (members (may_at may n)) k
 given_others true may n k = refl
 given_others false may n k = sym (stay_is (members (may_at may n)) k)
 
@@ -278,7 +278,7 @@ pub fits_home_by : (home : Option (List ℕ)) (known : ℕ → Option ℕ) (show
 fits_home_by home known shown b h e = e ∙ ap (λ k. fits_each k (word_at shown)) h
 
 -- AT FIRST
-all_same : {A : Type 0} (k n : ℕ) (x : A) → slice_index_or (replicate k x) n x ≡ x
+pub all_same : {A : Type 0} (k n : ℕ) (x : A) → slice_index_or (replicate k x) n x ≡ x
 all_same {A} zero zero x = refl
 all_same {A} zero (suc n) x = refl
 all_same {A} (suc k) zero x = refl
@@ -300,7 +300,7 @@ told_nothing z = made_same _ _ _ _ _ _ _ _ _ _ _ _ _
 shown_nobody : (h : Held) → members nobody h ≡ shown_all (members nobody) h
 shown_nobody h = alike_is _ _ (each_held (λ h. alike (members nobody h) (shown_all (members nobody) h)) refl h)
 
-past_by : (n : ℕ) (b : Bool) → nat_lt n 32 ≡ b → (n < 32) ⊎ (32 ≤ n)
+pub past_by : (n : ℕ) (b : Bool) → nat_lt n 32 ≡ b → (n < 32) ⊎ (32 ≤ n)
 past_by n true h = inl (search (rules, arith))
 past_by n false h = inr (search (rules, arith))
 

@@ -8,9 +8,8 @@ use Rattle.chi_copies.specs.Worlds.{World, Shown}
 use Rattle.chi_copies.specs.Observed.{Observed, Sound, Meaning, any_of}
 use Rattle.chi_copies.specs.Moments.{none_dirty, home_is_last}
 use Rattle.chi_copies.specs.Runs.{IsCleaned}
-use Rattle.chi_copies.proofs.Finite.{no, left, right, both, by_false, turned, flip, in_held, out_held}
+use Rattle.chi_copies.proofs.Finite.{all_out, no, left, right, both, by_false, turned, flip, in_held, out_held}
 use Rattle.chi_copies.proofs.Leads.{all_by}
-use Rattle.chi_copies.proofs.Comes.{all_out}
 use Rattle.chi_copies.proofs.Top.{each_in_some}
 use Rattle.chi_copies.proofs.Put.{differ}
 

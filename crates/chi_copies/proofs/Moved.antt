@@ -179,7 +179,7 @@ shown_if : (b : Bool) (h : Held) → (others_if b h).stored ≡ true → (b ≡ 
 shown_if true h e = no e
 shown_if false h e = (refl, e)
 
-sane_if : (b : Bool) (h : Held) → is_sane h ≡ true → is_sane (others_if b h) ≡ true
+pub sane_if : (b : Bool) (h : Held) → is_sane h ≡ true → is_sane (others_if b h) ≡ true
 sane_if true h e = refl
 sane_if false h e = e
 
@@ -260,7 +260,7 @@ module _ (o : Observed) (f : CacheFlit) (sound : Sound o) (low : f.agent.0 < 32)
   beside_other : (m : ℕ) → m ≢ n → m < 32 → (h t : Held) → o.may n h ≡ true → o.may m t ≡ true → beside h t ≡ true
   beside_other m g l h t e q = sound.pairs n m low l (λ e. g (sym e)) h t e q
 
-  pairs_at : (m : ℕ) → m ≢ n → m < 32 → (k t : Held) → sent o f k ≡ true → others_after o f m t ≡ true → beside k t ≡ true
+  pub pairs_at : (m : ℕ) → m ≢ n → m < 32 → (k t : Held) → sent o f k ≡ true → others_after o f m t ≡ true → beside k t ≡ true
   pairs_at m g l k t e q = let c = came k e in let y = other_of o f m t q in
       subst (λ t. beside k t ≡ true) y.is (follow (is_sane y.held && beside c.held y.held) _
       (each_held (λ t. implies (is_sane t && beside c.held t) (beside k (others_then a t))) (weaker_each a c.by.own x up c.held k c.sane c.by.row) y.held)
@@ -271,7 +271,7 @@ module _ (o : Observed) (f : CacheFlit) (sound : Sound o) (low : f.agent.0 < 32)
       subst (λ h. beside h k ≡ true) u.is (subst (λ k. beside (others_then a u.held) k ≡ true) v.is (beside_if (tells_words a) u.held v.held (sound.pairs i j li lj g u.held v.held u.has v.has)))
 
   -- what the copy that was sent from says of the others
-  told_at : (k : Held) → Came k → (m : ℕ) → m ≢ n → m < 32 → (t : Held) → o.may m t ≡ true → tells_words a ≡ true → (not (is_newer t) && not (is_unique t.copy)) ≡ true
+  pub told_at : (k : Held) → Came k → (m : ℕ) → m ≢ n → m < 32 → (t : Held) → o.may m t ≡ true → tells_words a ≡ true → (not (is_newer t) && not (is_unique t.copy)) ≡ true
   told_at k c m g l t e w = follow (tells_words a) _ (left _ _ (follow (is_sane t && beside c.held t) _
       (each_held (λ t. implies (is_sane t && beside c.held t) (implies (tells_words a) (not (is_newer t) && not (is_unique t.copy)) && implies (is_store_row a c.by.own || (loses a x c.held || writes a)) (not (holds_data t.copy)))) (quiet_each a c.by.own x up c.held k c.sane c.by.row) t)
       (both (is_sane t) _ (sane o sound m l t e) (beside_other m g l c.held t c.has e)))) w

@@ -61,7 +61,7 @@ pub with_is : (n p : ℕ) (h k : Held) → p ≡ place_of h → (bit_at (bit_or 
 with_is n p h k e = let l : place_of h < 28 = low h in by_place n p (place_of k) (same_held h k) (omega arith) (ap (λ x. x == place_of k) e ∙ places h k)
 
 -- one more
-suc_is : (k : ℕ) → suc k ≡ k + 1
+pub suc_is : (k : ℕ) → suc k ≡ k + 1
 suc_is k = search (rules, arith)
 
 swap : (a b : Bool) → (a || b) ≡ (b || a)

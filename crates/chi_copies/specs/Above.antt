@@ -1,5 +1,5 @@
 -- Whoever thinks more copies possible, and knows less of the words, takes each flit of a cache that another takes, and goes on to
--- think so: what a trace that begins in the middle needs (docs/COPIES.md, "What is proved").
+-- think so (docs/COPIES.md, "What is proved").
 use Rattle.std.specs.Prelude.{◌≡◌, ℕ, ◌<◌, List, true, false, Some, None}
 use Rattle.chi_observer.specs.declared.flits.CacheFlit.{CacheFlit}
 use Rattle.chi_observer.specs.Rules.{are_hidden}

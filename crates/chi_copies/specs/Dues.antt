@@ -35,3 +35,21 @@ due_at_half p kind =
 
 abbrev pub due_is : DueCode → Due
 due_is c = due_at_half (c.0 / 16) (kind_at (c.0 % 16))
+
+-- and the number of a kind
+abbrev pub number_of : Kind → ℕ
+number_of ReadNotSharedDirty = 0
+number_of ReadShared = 1
+number_of ReadClean = 2
+number_of ReadOnce = 3
+number_of ReadUnique = 4
+number_of CleanUnique = 5
+number_of MakeUnique = 6
+number_of CleanShared = 7
+number_of CleanInvalid = 8
+number_of MakeInvalid = 9
+number_of Evict = 10
+number_of WriteBackFull = 11
+number_of WriteCleanFull = 12
+number_of WriteEvictFull = 13
+number_of WriteUniqueFull = 14

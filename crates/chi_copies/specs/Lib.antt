@@ -12,3 +12,7 @@ pub mod Laws
 pub mod Values
 pub mod Above
 pub mod Refusals
+pub mod Begun
+pub mod BegunLines
+pub mod BegunRefusals
+pub mod Tails

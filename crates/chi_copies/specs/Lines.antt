@@ -26,6 +26,7 @@ use Rattle.chi_copies.specs.Observed.{Observed, any_of, fits_each, fits_home, go
 use Rattle.chi_copies.specs.Worlds.{all_below}
 use Rattle.chi_copies.specs.Moments.{has_moment}
 use Rattle.chi_copies.specs.Sets.{held_is, members}
+use Rattle.chi_copies.specs.Begun.{apart, is_home_copy}
 
 -- WORDS of a flit of a cache beside those that are known
 abbrev pub fits_by : CacheFlit → (ℕ → Option ℕ) → Fits
@@ -55,6 +56,8 @@ leads_by (steps.Hidden z d) h k = slips z d h k
 leads_by (steps.Granted g d) h k = same_held (granted g d h) k
 leads_by steps.Shown h k = same_held (shown_of h) k
 leads_by steps.Apart h k = not (beside h k)
+leads_by steps.SurelyApart h k = apart h k
+leads_by steps.Together h k = not (apart h k)
 
 -- TESTS of one copy
 abbrev pub passes : Test → Held → Bool
@@ -69,6 +72,9 @@ passes tests.Newer h = is_newer h
 passes (tests.StorableEmpty d) h = may_store d h && (is_unique h.copy && not (holds_data h.copy))
 passes (tests.StorableNewer d) h = may_store d h && (is_unique h.copy && is_newer h)
 passes (tests.Apart k) h = not (beside (held_is k) h)
+passes tests.HomeCopy h = is_home_copy h
+passes (tests.SurelyApart k) h = apart (held_is k) h
+passes (tests.Together k) h = not (apart (held_is k) h)
 
 -- what another agent may not have beside a set's copies, or not at all
 abbrev pub apart_by : Copies → Bool → Copies

@@ -117,6 +117,14 @@ impl Copies {
         }
     }
 
+    /// The copies that aren't in it.
+    pub(crate) fn others(self) -> Copies
+        ensures { (h : HeldOf) → members result h ≡ not (members self h) }
+    {
+        let known = self.known();
+        Copies { bits: !known.bits }
+    }
+
     /// The set without any bit that is none of a copy.
     pub(crate) fn known(self) -> Copies
         ensures low { result.bits < 268435456 }

@@ -18,7 +18,7 @@ pub const NOTHING_DUE: DueCode = DueCode(0);
 
 /// The number of a kind.
 fn kind_number(kind: Kind) -> u8
-    ensures low { result < 15 }
+    ensures low { result < 16 }
     ensures of { kind_at result ≡ kind }
 {
     match kind {

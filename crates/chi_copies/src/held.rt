@@ -3,6 +3,7 @@
 ghost use Rattle.std.specs.Prelude.{◌≡◌};
 ghost use Rattle.chi_observer.specs.Copies.{compatible, holds_data, is_clean, is_dirty, is_unique, same as same_copy};
 ghost use Rattle.chi_copies.specs.Copies.{beside, is_fresh, is_lost, is_newer, shown_of};
+ghost use Rattle.chi_copies.specs.Begun.{is_home_copy};
 ghost use Rattle.chi_copies.specs.Sets.{copy_is, held_is};
 
 /// What a cache has of a line. `UniqueEmpty` is the standard's unique copy without data, and `Writing` is none, while the
@@ -139,6 +140,13 @@ impl Held {
         ensures { result ≡ is_newer (held_is self) }
     {
         self.stored && self.copy.holds_data()
+    }
+
+    /// Whether its words are the home's: none but a UD copy may have others.
+    pub(crate) fn is_home_copy(self) -> bool
+        ensures { result ≡ is_home_copy (held_is self) }
+    {
+        self.is_fresh() && !self.copy.is(CacheCopy::UniqueDirty)
     }
 
     /// Whether two agents may have such copies together.

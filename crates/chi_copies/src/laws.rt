@@ -5,6 +5,7 @@ ghost use Rattle.chi_copies.specs.Told.{NewIsTold, TakenIsTold, TakenIsAccepted,
 ghost use Rattle.chi_copies.specs.Runs.{LegalIsAccepted, AcceptedIsLegal, AcceptedIsExact, AcceptedIsCoherent};
 ghost use Rattle.chi_copies.specs.Values.{ReadOnceShowsValue};
 ghost use Rattle.chi_copies.specs.Above.{AboveTakes, StaysAbove, AboveMeansMore, SoundIsAbove, NothingIsAboveAll};
+ghost use Rattle.chi_copies.specs.Tails.{TailsAreTaken, RefusedIsNoTail};
 
 /// The law that each world that the sets stand for is coherent, that hidden steps lead to just those that they stand for, and that
 /// each copy of a set is in some world.
@@ -69,4 +70,12 @@ pub fn calls()
     ensures told { TakenIsTold }
     ensures accepted { TakenIsAccepted }
     ensures taken { AcceptedIsTaken }
+{}
+
+/// The law of traces that begin in the middle: each flit of such a trace is taken if some flits before it make the whole one legal, so
+/// behind a flit that isn't taken no trace is legal, whatever was before.
+/// Source: `docs/COPIES.md`, "A trace that begins in the middle".
+pub fn tails()
+    ensures taken { TailsAreTaken }
+    ensures refused { RefusedIsNoTail }
 {}

@@ -5,6 +5,11 @@
 #![tactic(auto)]
 
 mod acts;
+mod begun;
+mod begun_given;
+mod begun_moments;
+mod begun_sent;
+mod certain;
 mod copies;
 mod dues;
 mod held;
@@ -16,8 +21,9 @@ mod steps;
 mod tests;
 mod timed;
 
+pub use begun::Begun;
 pub use copies::{Copies, NOBODY};
 pub use dues::{DueCode, NOTHING_DUE};
 pub use held::{CacheCopy, Held};
-pub use laws::{above, cache_flits, calls, home_flits, meaning, traces};
+pub use laws::{above, cache_flits, calls, home_flits, meaning, tails, traces};
 pub use line::{AGENTS, Line, Reason};

@@ -98,7 +98,7 @@ fn with_word(known: [Option<u64>; 8], word: Word) -> [Option<u64>; 8]
 }
 
 /// The words of the home, where they are known.
-fn home_words(home: &Option<Data>) -> [Option<u64>; 8]
+pub(crate) fn home_words(home: &Option<Data>) -> [Option<u64>; 8]
     ensures { known_at result ≡ of_eight (home_at home.now) }
 {
     match home {
@@ -117,14 +117,14 @@ fn home_words(home: &Option<Data>) -> [Option<u64>; 8]
 }
 
 /// No words are known.
-fn none_known() -> [Option<u64>; 8]
+pub(crate) fn none_known() -> [Option<u64>; 8]
     ensures { known_at result ≡ no_words }
 {
     [None; 8]
 }
 
 /// Whether the home has the duty to write dirty data behind a flit of a cache.
-fn duty_after(duty: bool, act: Act) -> bool
+pub(crate) fn duty_after(duty: bool, act: Act) -> bool
     ensures { result ≡ (duty || passes_duty act) }
 {
     duty || passes_duty(act)
@@ -150,14 +150,14 @@ fn each_shown(may: &[Copies; 32]) -> [Copies; 32]
 }
 
 /// What each copy may be behind a flit; `tells` says that the home has its words.
-fn others_may(tells: bool, may: &[Copies; 32]) -> [Copies; 32]
+pub(crate) fn others_may(tells: bool, may: &[Copies; 32]) -> [Copies; 32]
     ensures { (n : ℕ) (h : HeldOf) → members (may_at result n) h ≡ others_may tells may.now n h }
 {
     if tells { each_shown(may) } else { *may }
 }
 
 /// The home's words behind a flit; `tells` says that they are its own.
-fn home_then(tells: bool, words: Data, home: Option<Data>) -> Option<Data>
+pub(crate) fn home_then(tells: bool, words: Data, home: Option<Data>) -> Option<Data>
     ensures { result ≡ (if tells then Some words else home) }
 {
     if tells { Some(words) } else { home }
@@ -171,14 +171,14 @@ fn news_granted(makes: bool, news: [Option<u64>; 8]) -> [Option<u64>; 8]
 }
 
 /// Whether the home has the duty to write dirty data behind a flit of its own.
-fn duty_granted(duty: bool, grant: Grant) -> bool
+pub(crate) fn duty_granted(duty: bool, grant: Grant) -> bool
     ensures { result ≡ (duty && not (needs_duty grant)) }
 {
     duty && !needs_duty(grant)
 }
 
 /// Whether no agent has a CompAck or write data due.
-fn is_quiet(due: &[DueCode; 32]) -> bool
+pub(crate) fn is_quiet(due: &[DueCode; 32]) -> bool
     ensures { result ≡ all_below 32 (λ m. not (is_busy (due_at due.now m))) }
 {
     let mut quiet = true;
@@ -189,7 +189,7 @@ fn is_quiet(due: &[DueCode; 32]) -> bool
 }
 
 /// Whether no other agent has a request open for which copies may be thrown away.
-fn is_none_overwriting(due: &[DueCode; 32], agent: u8) -> bool
+pub(crate) fn is_none_overwriting(due: &[DueCode; 32], agent: u8) -> bool
     ensures { result ≡ all_below 32 (λ m. m == agent || not (overwrites (due_at due.now m))) }
 {
     let mut none = true;

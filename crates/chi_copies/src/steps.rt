@@ -29,6 +29,10 @@ pub enum Step {
     Shown,
     /// To each copy that no other agent may have beside it.
     Apart,
+    /// To each copy that no other agent may have beside it, whatever the words of a UD copy are.
+    SurelyApart,
+    /// To each copy that another agent may have beside it, by what the words of a UD copy may be.
+    Together,
 }
 
 /// The set with what unseen steps lead to from the copy.
@@ -57,6 +61,8 @@ impl Step {
             Step::Granted(grant, due) => left.with(granted(grant, due, held)),
             Step::Shown => left.with(held.shown()),
             Step::Apart => left.or(Test::Apart(held).copies()),
+            Step::SurelyApart => left.or(Test::SurelyApart(held).copies()),
+            Step::Together => left.or(Test::Together(held).copies()),
         }
     }
 

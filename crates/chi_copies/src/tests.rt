@@ -3,6 +3,7 @@
 ghost use Rattle.std.specs.Prelude.{◌≡◌, ◌&&◌, ◌||◌, not};
 ghost use Rattle.chi_observer.specs.Copies.{compatible};
 ghost use Rattle.chi_copies.specs.Copies.{Held as HeldOf, is_fresh, is_lost};
+ghost use Rattle.chi_copies.specs.Begun.{apart, is_home_copy};
 ghost use Rattle.chi_copies.specs.Observed.{any_of};
 ghost use Rattle.chi_copies.specs.Rules.{may_store};
 ghost use Rattle.chi_copies.specs.Sets.{copy_is, held_is, members};
@@ -44,6 +45,9 @@ const NEWER: Copies = Copies { bits: 0x06cd_8000 };
 
 /// With the value, which the home has too.
 const FRESH: Copies = Copies { bits: 0x0000_1b36 };
+
+/// With the value, which the home has too, and not UD.
+const HOME_COPY: Copies = Copies { bits: 0x0000_1326 };
 
 /// Without data, of a cache that has thrown the value away.
 const THROWN: Copies = Copies { bits: 0x0932_4000 };
@@ -89,6 +93,12 @@ pub enum Test {
     StorableNewer(Due),
     /// No other agent may have it beside this one.
     Apart(Held),
+    /// It has the home's words: a copy with data that wasn't stored to, and not UD.
+    HomeCopy,
+    /// No other agent may have it beside this one, whatever the words of a UD copy are.
+    SurelyApart(Held),
+    /// Another agent may have it beside this one, by what the words of a UD copy may be.
+    Together(Held),
 }
 
 /// The copies that a store may be to while this is due.
@@ -144,6 +154,27 @@ fn lost_beside(held: Held) -> Copies
     }
 }
 
+/// The copies that have the home's words where this one has lost the value, or the other way round.
+fn surely_lost_beside(held: Held) -> Copies
+    ensures { (h : HeldOf) → members result h
+        ≡ ((is_lost (held_is held) && is_home_copy h) || (is_home_copy (held_is held) && is_lost h)) }
+{
+    if held.is_lost() {
+        HOME_COPY
+    } else if held.is_home_copy() {
+        THROWN
+    } else {
+        NONE
+    }
+}
+
+/// The copies that no other cache may have beside one, whatever the words of a UD copy are.
+fn surely_apart(held: Held) -> Copies
+    ensures { (h : HeldOf) → members result h ≡ apart (held_is held) h }
+{
+    apart_from(held.copy).or(surely_lost_beside(held))
+}
+
 impl Test {
     /// The copies that are so.
     pub(crate) fn copies(self) -> Copies
@@ -161,6 +192,9 @@ impl Test {
             Test::StorableEmpty(due) => storable(due).and(UNIQUE_EMPTY),
             Test::StorableNewer(due) => storable(due).and(UNIQUE_NEWER),
             Test::Apart(held) => apart_from(held.copy).or(lost_beside(held)),
+            Test::HomeCopy => HOME_COPY,
+            Test::SurelyApart(held) => surely_apart(held),
+            Test::Together(held) => surely_apart(held).others(),
         }
     }
 

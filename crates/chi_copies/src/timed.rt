@@ -38,7 +38,7 @@ pub(crate) fn issuer_of(flit: CacheFlit) -> Option<u8>
 }
 
 /// Whether the agent is this one.
-fn is_issuer(issuer: Option<u8>, agent: usize) -> bool
+pub(crate) fn is_issuer(issuer: Option<u8>, agent: usize) -> bool
     ensures { result ≡ issues issuer agent }
 {
     match issuer {

@@ -10,4 +10,6 @@ mod rows;
 #[cfg(test)]
 mod said;
 #[cfg(test)]
+mod tails;
+#[cfg(test)]
 mod walk;

@@ -55,9 +55,14 @@ const DATA: [Data; 2] = [OLD, NEW];
 
 /// A row of numbers (Marsaglia's xorshift).
 #[derive(Drop)]
-struct Random(u64);
+pub(crate) struct Random(u64);
 
 impl Random {
+    /// The row that this number begins, which isn't 0.
+    pub(crate) fn new(seed: u64) -> Random {
+        Random(seed)
+    }
+
     fn next(&mut self) -> u64 {
         self.0 ^= self.0 << 13;
         self.0 ^= self.0 >> 7;
@@ -105,7 +110,8 @@ impl Random {
         })
     }
 
-    fn flit(&mut self) -> Option<Flit> {
+    /// A flit of one of three agents, or to it.
+    pub(crate) fn flit(&mut self) -> Option<Flit> {
         let agent = self.one_of(&[0, 1, 2])?;
         let data = self.one_of(&DATA)?;
         Some(if self.next() % 2 == 0 {
@@ -118,7 +124,7 @@ impl Random {
 
 /// How many of some random flits both accept; `None` at the first that one of them accepts alone.
 fn accepted_by_both(stores: Stores, seed: u64) -> Option<u32> {
-    let mut random = Random(seed);
+    let mut random = Random::new(seed);
     let mut line = Line::new(stores);
     let mut observer = WordedObserver::new(stores);
     let mut accepted = 0u32;

@@ -2,7 +2,7 @@
 
 use crate::rows::ROWS;
 use crate::said::{OLD, Said, said_by};
-use chi_copies::Line;
+use chi_copies::{Begun as BegunBySets, Line};
 use chi_flit::{Agent, Data, NO_DATA, State};
 use chi_observer::{
     Act, Arrivals, Begun, CacheFlit, Flit, Grant, HomeFlit, Kind, Reason, Stores, Untaken,
@@ -17,6 +17,7 @@ enum Judge {
     Begun(Begun),
     /// By sets of copies: whether a flit is accepted, and no reason.
     Copies(Line),
+    CopiesBegun(BegunBySets),
 }
 
 impl Judge {
@@ -36,13 +37,14 @@ impl Judge {
         match word.as_bytes() {
             b"hidden" => Some(Judge::Copies(Line::new(Stores::Hidden))),
             b"listed" => Some(Judge::Copies(Line::new(Stores::Listed))),
+            b"begun" | b"tails" => Some(Judge::CopiesBegun(BegunBySets::new(Stores::Hidden))),
             _ => None,
         }
     }
 
     /// Whether the judge says of a flit what is wanted.
     fn says(&mut self, flit: Flit, wanted: Result<(), Untaken>) -> bool {
-        let is_by_sets = matches!(self, Judge::Copies(_));
+        let is_by_sets = matches!(self, Judge::Copies(_) | Judge::CopiesBegun(_));
         let said = self.take(flit);
         said == wanted || is_by_sets && said.is_ok() == wanted.is_ok()
     }
@@ -54,6 +56,9 @@ impl Judge {
                 Flit::Down(given) => line.take_home(given),
             }
             .map_err(|_| Untaken::Fault(Reason::NotSent)),
+            Judge::CopiesBegun(line) => line
+                .take(flit)
+                .map_err(|_| Untaken::Fault(Reason::NotSent)),
             Judge::Whole(observer) => observer.take(flit).map_err(Untaken::Fault),
             Judge::Home(arrivals) => arrivals.take(flit),
             Judge::Begun(begun) => begun.take(flit).map_err(Untaken::Fault),
@@ -201,12 +206,20 @@ fn is_whole_row_so(row: &str) -> bool {
     (0..16).all(|first| is_named_row_so(row, first))
 }
 
-/// Whether sets of copies accept just what the row accepts, where they judge it.
-fn is_row_so_by_sets(row: &str) -> bool {
+/// Whether sets of copies accept just what the row accepts from this flit on, where they judge it.
+fn is_row_so_by_sets(row: &str, first: usize) -> bool {
     match row.split_whitespace().next().and_then(Judge::with_sets) {
-        Some(judge) => is_row_so(row, 0, judge),
+        Some(judge) => is_row_so(row, first, judge),
         None => true,
     }
+}
+
+/// Whether they do from its first flit on: of tails, from each.
+fn is_whole_row_so_by_sets(row: &str) -> bool {
+    if !row.starts_with("tails") {
+        return is_row_so_by_sets(row, 0);
+    }
+    (0..16).all(|first| is_row_so_by_sets(row, first))
 }
 
 #[test]
@@ -222,7 +235,7 @@ fn flits_are_judged_as_their_rows_say(rt: HostRuntime) {
 fn sets_of_copies_accept_what_the_rows_accept(rt: HostRuntime) {
     for rows in ROWS {
         for row in rows {
-            assert!(rt; is_row_so_by_sets(row), "{row}");
+            assert!(rt; is_whole_row_so_by_sets(row), "{row}");
         }
     }
 }

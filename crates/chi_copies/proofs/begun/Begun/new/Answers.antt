@@ -1,0 +1,6 @@
+-- Nothing is known.
+use Rattle.chi_copies.proofs.BegunLines.{nothing_yet}
+use Rattle.chi_copies.proofs.begun.Begun.new.Goals as goal
+
+pub returns : goal.returns
+returns c = nothing_yet c.args.stores

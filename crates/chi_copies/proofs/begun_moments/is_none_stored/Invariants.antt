@@ -1,0 +1,10 @@
+-- So far all are tested.
+use Rattle.std.proofs.Common.{◌≡◌}
+use Rattle.std.specs.Prelude.{not}
+use Rattle.chi_copies.specs.Worlds.{all_below}
+use Rattle.chi_copies.specs.Begun.{counts}
+use Rattle.chi_copies.specs.BegunLines.{sets_of, sure_of}
+use Rattle.chi_copies.proofs.begun_moments.is_none_stored.Given as goal
+
+abbrev pub invariant-loop-n : goal.invariant-loop-n
+invariant-loop-n l = l.none ≡ all_below l.n (λ m. not (counts (sure_of l.sure m) (sets_of l.may m) (λ h. h.stored)))
