@@ -113,7 +113,7 @@ all_out (suc k) f h p l = by (p == k) refl (λ g. all_out k f (right (f k) _ h) 
     by false e g = g (below_but p k l (differ p k e))
 
 -- the kinds have numbers below 16
-kind_is : (k : Kind) → (kind_at (number_of k) ≡ k) × (number_of k < 16)
+pub kind_is : (k : Kind) → (kind_at (number_of k) ≡ k) × (number_of k < 16)
 kind_is k = (grind arith, grind arith)
 
 abbrev pub all_kinds : (Kind → Bool) → Bool

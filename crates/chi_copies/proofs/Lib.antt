@@ -38,3 +38,8 @@ mod TailLeft
 mod TailMoments
 mod TailRuns
 mod BegunTaken
+mod PromptSteps
+mod Prompt
+mod PromptGiven
+mod PromptSafe
+mod PromptLogs

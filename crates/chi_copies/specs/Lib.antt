@@ -16,3 +16,5 @@ pub mod Begun
 pub mod BegunLines
 pub mod BegunRefusals
 pub mod Tails
+pub mod Arriving
+pub mod Prompt

@@ -6,6 +6,7 @@ ghost use Rattle.chi_copies.specs.Runs.{LegalIsAccepted, AcceptedIsLegal, Accept
 ghost use Rattle.chi_copies.specs.Values.{ReadOnceShowsValue};
 ghost use Rattle.chi_copies.specs.Above.{AboveTakes, StaysAbove, AboveMeansMore, SoundIsAbove, NothingIsAboveAll};
 ghost use Rattle.chi_copies.specs.Tails.{TailsAreTaken, RefusedIsNoTail};
+ghost use Rattle.chi_copies.specs.Prompt.{BeginsPrompt, PromptFlitsAreTaken, StaysPrompt, StaysPromptGiven, PromptGivenIsTaken, PromptLogsAreTaken};
 
 /// The law that each world that the sets stand for is coherent, that hidden steps lead to just those that they stand for, and that
 /// each copy of a set is in some world.
@@ -78,4 +79,17 @@ pub fn calls()
 pub fn tails()
     ensures taken { TailsAreTaken }
     ensures refused { RefusedIsNoTail }
+{}
+
+/// The law of a log that is taken at the home while nothing is on its way, beside the same log as sent: the two observers begin beside
+/// each other, and stay so behind each flit that is taken of the log as sent; a flit of a cache that is taken of it is taken at the home
+/// too, so in a legal log none is refused for coming at once; and a flit of the home that is taken there is taken of it, its words apart.
+/// Source: `docs/COPIES.md`, "Seen at the home".
+pub fn prompt()
+    ensures begins { BeginsPrompt }
+    ensures taken { PromptFlitsAreTaken }
+    ensures stays { StaysPrompt }
+    ensures given { StaysPromptGiven }
+    ensures safe { PromptGivenIsTaken }
+    ensures logs { PromptLogsAreTaken }
 {}
