@@ -46,13 +46,13 @@ pub struct Begun {
 /// What stands for a request from before: it hinders nothing.
 pub(crate) const LEFT_OVER: Due = Due::Completion(Kind::MakeInvalid);
 
-/// The same, as a byte.
+/// The byte of what stands for a request from before.
 const LEFT_OVER_CODE: DueCode = DueCode(25);
 
 /// Each copy that is neither cancelled nor stored to.
 const PLAIN: Copies = Copies { bits: 0x0000_007f };
 
-/// The same, and those that are cancelled.
+/// Each copy that was not stored to, cancelled or not.
 const UNSTORED: Copies = Copies { bits: 0x0000_3fff };
 
 /// Whether a flit of a cache may be due of a request or a snoop from before.

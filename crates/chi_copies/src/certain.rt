@@ -45,7 +45,7 @@ pub(crate) fn apart_from(sure: bool, set: Copies) -> Copies
     }
 }
 
-/// The same; `alone` says that there is to be none.
+/// What another agent can't have beside the copies of a set; `alone` says that none may be left.
 pub(crate) fn apart_beside(sure: bool, set: Copies, alone: bool) -> Copies
     ensures { (h : HeldOf) → members result h ≡ apart_beside sure (members set) alone h }
 {

@@ -93,7 +93,7 @@ pub enum Test {
     StorableNewer(Due),
     /// No other agent may have it beside this one.
     Apart(Held),
-    /// It has the home's words: a copy with data that wasn't stored to, and not UD.
+    /// The copy has the home's words: it has data, was not stored to, and is not UD.
     HomeCopy,
     /// No other agent may have it beside this one, whatever the words of a UD copy are.
     SurelyApart(Held),
