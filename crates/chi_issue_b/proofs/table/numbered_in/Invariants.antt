@@ -1,0 +1,8 @@
+-- The rows from this one on have the answer.
+use Rattle.std.proofs.Common.{◌≡◌, map, drop}
+use Rattle.chi_issue_b.specs.Opcodes.{first_of, has_number, lent_row}
+use Rattle.chi_issue_b.proofs.table.numbered_in.Given as goal
+
+abbrev pub invariant-loop-row : goal.invariant-loop-row
+invariant-loop-row l =
+    first_of (has_number l.number) (map lent_row (drop l.row-index l.rows)) ≡ first_of (has_number l.number) (map lent_row l.rows)
