@@ -1,0 +1,2 @@
+mod Beats
+mod Tables

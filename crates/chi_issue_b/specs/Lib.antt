@@ -3,3 +3,6 @@ pub mod Opcodes
 pub mod Resp
 pub mod Ids
 pub mod Flit
+pub mod Near
+pub mod Beat
+pub mod Laws

@@ -1,5 +1,5 @@
 -- The opcodes of Issue B, by the rows of their table (docs/TRACES.md, "Traces" and "Other opcodes").
-use Rattle.std.specs.Prelude.{ℕ, ◌-◌, ◌&&◌, Bool, true, false, List, [], Option, bytes_eq, map, nat_le, nat_lt}
+use Rattle.std.specs.Prelude.{ℕ, ◌-◌, ◌&&◌, Bool, false, List, [], Option, bytes_eq, map, nat_le, nat_lt}
 use Rattle.std.specs.List.{find, slice_index_or}
 use Rattle.std.specs.Option.{option_map}
 use denote.Enum.Declared.{tag_of}
@@ -13,30 +13,31 @@ use Rattle.chi_issue_b.specs.declared.channels.Channel.TheVariants as channels
 use Rattle.chi_issue_b.specs.declared.opcodes.Opcode.{Opcode}
 use Rattle.chi_issue_b.specs.declared.opcodes.Opcode.TheVariants.{Req, Snp, Rsp, Dat}
 use Rattle.chi_issue_b.specs.declared.opcodes.RequestOpcode.TheVariants.{ReqLCrdReturn}
-use Rattle.chi_issue_b.specs.declared.opcodes.DataOpcode.TheVariants.{DataLCrdReturn, WriteDataCancel}
 use Rattle.chi_issue_b.specs.declared.roles.Role.{Role}
 use Rattle.chi_issue_b.specs.declared.roles.Role.TheVariants.{NoTransaction}
 use Rattle.chi_issue_b.specs.declared.table.TheConstants.{REQUESTS, SNOOPS, RESPONSES, DATA_FLITS}
 
--- a row of the table: an opcode, its word, the first of its numbers, how many it has, and what it does to ids
+-- a row of the table: an opcode, its word, the first of its numbers, how many it has, what it does to ids, and whether its flits
+-- carry words of a cache line
 pub record Row : Type 0 where
   pub opcode : Opcode
   pub word : List ℕ
   pub number : ℕ
   pub numbers : ℕ
   pub role : Role
+  pub carries_data : Bool
 
 -- the row that the code keeps as a tuple, with a reference to its word
-abbrev pub lent_row : Opcode × Bor (List ℕ) × ℕ × ℕ × Role → Row
-lent_row (opcode, word, number, numbers, role) =
-    record { opcode = opcode; word = word.now; number = number; numbers = numbers; role = role }
+abbrev pub lent_row : Opcode × Bor (List ℕ) × ℕ × ℕ × Role × Bool → Row
+lent_row (opcode, word, number, numbers, role, carries) =
+    record { opcode = opcode; word = word.now; number = number; numbers = numbers; role = role; carries_data = carries }
 
-abbrev pub constant_row : Opcode × record { now : List ℕ } × ℕ × ℕ × Role → Row
-constant_row (opcode, word, number, numbers, role) =
-    record { opcode = opcode; word = word.now; number = number; numbers = numbers; role = role }
+abbrev pub constant_row : Opcode × record { now : List ℕ } × ℕ × ℕ × Role × Bool → Row
+constant_row (opcode, word, number, numbers, role, carries) =
+    record { opcode = opcode; word = word.now; number = number; numbers = numbers; role = role; carries_data = carries }
 
 -- THE TABLE, by channel
-abbrev pub rows_of : Channel → List Row
+unfoldable pub rows_of : Channel → List Row
 rows_of channels.Req = map constant_row REQUESTS
 rows_of channels.Snp = map constant_row SNOOPS
 rows_of channels.Rsp = map constant_row RESPONSES
@@ -57,9 +58,9 @@ place_of (Dat kind) = tag_of datas.the_type kind
 
 -- what is past the end of the table
 abbrev pub no_row : Row
-no_row = record { opcode = Req ReqLCrdReturn; word = []; number = 0; numbers = 0; role = NoTransaction }
+no_row = record { opcode = Req ReqLCrdReturn; word = []; number = 0; numbers = 0; role = NoTransaction; carries_data = false }
 
-abbrev pub row_of : Opcode → Row
+unfoldable pub row_of : Opcode → Row
 row_of opcode = slice_index_or (rows_of (channel_of opcode)) (place_of opcode) no_row
 
 abbrev pub word_of : Opcode → List ℕ
@@ -72,12 +73,7 @@ abbrev pub role_of : Opcode → Role
 role_of opcode = (row_of opcode).role
 
 abbrev pub carries_data : Opcode → Bool
-carries_data (Req kind) = false
-carries_data (Snp kind) = false
-carries_data (Rsp kind) = false
-carries_data (Dat DataLCrdReturn) = false
-carries_data (Dat WriteDataCancel) = false
-carries_data (Dat other) = true
+carries_data opcode = (row_of opcode).carries_data
 
 -- the opcode of the first row that passes a test
 abbrev pub first_of : (Row → Bool) → List Row → Option Opcode

@@ -29,7 +29,7 @@ constant_row (resp, word, number, completions, answers) =
     record { resp = resp; word = word.now; number = number; in_completions = completions; in_answers = answers }
 
 -- THE TABLE
-abbrev pub rows : List Row
+unfoldable pub rows : List Row
 rows = map constant_row RESPS
 
 -- what is past the end of the table
@@ -37,7 +37,7 @@ abbrev pub no_row : Row
 no_row = record { resp = I; word = []; number = 0; in_completions = false; in_answers = false }
 
 -- the row of a Resp: its place is that at which the code declares it
-abbrev pub row_of : Resp → Row
+unfoldable pub row_of : Resp → Row
 row_of resp = slice_index_or rows (tag_of the_type resp) no_row
 
 abbrev pub resp_word : Resp → List ℕ

@@ -161,13 +161,7 @@ impl Opcode {
     pub fn carries_data(self) -> bool
         ensures { result ≡ carries_data self }
     {
-        match self {
-            Opcode::Dat(kind) => !matches!(
-                kind,
-                DataOpcode::DataLCrdReturn | DataOpcode::WriteDataCancel
-            ),
-            _ => false,
-        }
+        row_of(self).5
     }
 
     /// The opcode of the channel that the word names; `None` where Issue B has none.

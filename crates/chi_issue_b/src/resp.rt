@@ -53,6 +53,7 @@ static RESPS: [Row; 10] = [
 impl Resp {
     /// The word that a trace writes.
     /// Source: `docs/TRACES.md`, "Traces".
+    #[tactic(auto, unfolding(crate::specs::Resp::row_of, crate::specs::Resp::rows))]
     pub fn word(self) -> &'static str
         ensures { result.now ≡ resp_word self }
     {
@@ -61,6 +62,7 @@ impl Resp {
 
     /// The three bits of the field.
     /// Source: Arm IHI 0050 Issue B, chapter 12.
+    #[tactic(auto, unfolding(crate::specs::Resp::row_of, crate::specs::Resp::rows))]
     pub fn number(self) -> u8
         ensures { result ≡ resp_number self }
     {
@@ -69,6 +71,7 @@ impl Resp {
 
     /// The Resp that a word of a trace names; `None` where it names none.
     /// Source: `docs/TRACES.md`, "Traces".
+    #[tactic(auto, unfolding(crate::specs::Resp::rows))]
     pub fn from_word(word: &[u8]) -> Option<Resp>
         ensures { result ≡ resp_named word.now }
     {
@@ -78,6 +81,7 @@ impl Resp {
     /// The Resp that a number means in flits of this use; `None` where it means none. Of two that share a number in answers to
     /// snoops it is the clean one: `UC` of 2, and `UC_PD` of 6.
     /// Source: Arm IHI 0050 Issue B, chapter 12.
+    #[tactic(auto, unfolding(crate::specs::Resp::rows))]
     pub fn from_number(of: RespUse, number: u8) -> Option<Resp>
         ensures { result ≡ resp_numbered of number }
     {
