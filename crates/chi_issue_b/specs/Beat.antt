@@ -1,7 +1,7 @@
 -- The words of data that a flit has (docs/TRACES.md, "Traces").
-use Rattle.std.specs.Prelude.{ℕ, ◌==◌, Bool, List, Option, Some, None, if◌then◌else◌, is_some}
+use Rattle.std.specs.Prelude.{ℕ, ◌==◌, Bool, List, Option, Some, None, if◌then◌else◌}
 use Rattle.std.specs.Int.{bit_at}
-use Rattle.std.specs.List.{list_all, range_with_len, slice_index_or}
+use Rattle.std.specs.List.{slice_index_or}
 use Rattle.chi_issue_b.specs.declared.beat.Beat.{Beat}
 
 -- the word of a number, where the beat has it

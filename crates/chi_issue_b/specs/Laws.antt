@@ -1,8 +1,8 @@
 -- What holds of the tables of opcodes and of Resp.
-use Rattle.std.specs.Prelude.{ℕ, ◌≡◌, List, Option, Some, length, map, replicate}
+use Rattle.std.specs.Prelude.{◌≡◌, Some, length, map, replicate}
 use Rattle.std.specs.List.{range_with_len}
 use Rattle.chi_issue_b.specs.declared.channels.Channel.{Channel}
-use Rattle.chi_issue_b.specs.Opcodes.{channel_of, opcode_named, opcode_numbered, place_of, row_of, rows_of}
+use Rattle.chi_issue_b.specs.Opcodes.{channel_of, opcode_named, opcode_numbered, place_of, rows_of}
 use Rattle.chi_issue_b.specs.Resp.{resp_named, rows}
 
 -- the rows of a channel are of its opcodes, in the order of the code's variants, each once

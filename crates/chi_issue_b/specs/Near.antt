@@ -1,5 +1,5 @@
 -- The opcode that a wrong word nearly is (docs/TRACES.md, "Other opcodes").
-use Rattle.std.specs.Prelude.{ℕ, ◌==◌, ◌&&◌, ◌||◌, Bool, true, false, List, [], ◌∷◌, Option, bytes_eq, if◌then◌else◌, map, not}
+use Rattle.std.specs.Prelude.{ℕ, ◌==◌, ◌&&◌, ◌||◌, Bool, true, false, List, [], ◌∷◌, Option, bytes_eq, if◌then◌else◌, map}
 use Rattle.std.specs.Char.{to_ascii_lowercase}
 use Rattle.chi_issue_b.specs.declared.channels.Channel.{Channel}
 use Rattle.chi_issue_b.specs.declared.opcodes.Opcode.{Opcode}

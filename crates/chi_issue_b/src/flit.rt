@@ -11,19 +11,19 @@ use crate::resp::Resp;
 /// Source: `docs/TRACES.md`, "Traces".
 #[derive(Clone, Copy, Debug, PartialEq, Eq)]
 pub struct Flit {
-    /// Its cache line, where `has_line` says that it has one.
+    /// The cache line of the flit's address, where `has_line` says that it has one; else line 0.
     line: CacheLine,
     /// The node that sent it.
     pub source: NodeId,
     /// The node that it goes to: of a snoop the requester that is asked.
     pub target: NodeId,
-    /// Its TXN: of CompAck and of write data the DBID that they name; 0 of PCrdReturn and PCrdGrant, which have none.
+    /// The TXN: of CompAck and of write data the DBID that they name; 0 of PCrdReturn and PCrdGrant, which have none.
     pub txn: TxnId,
-    /// Its DBID, where `has_dbid` says that it has one.
+    /// The DBID, where `has_dbid` says that the flit has one; else 0.
     dbid: DbId,
-    /// Its opcode, with its channel.
+    /// The opcode, and with it the channel.
     pub opcode: Opcode,
-    /// Its RESP, where it has one.
+    /// The RESP, where the flit has one.
     pub resp: Option<Resp>,
     /// The credit type of a RetryAck, of a credit that is granted or returned, and of a request with AllowRetry 0.
     pub credit: Option<PcrdType>,
@@ -102,7 +102,7 @@ impl Flit {
         }
     }
 
-    /// The cache line that it names; `None` where it has no address.
+    /// The cache line of the flit's address; `None` where it has none.
     /// Source: `docs/TRACES.md`, "Traces".
     #[inline(always)]
     pub fn line(&self) -> Option<CacheLine>
@@ -111,7 +111,7 @@ impl Flit {
         if self.has_line { Some(self.line) } else { None }
     }
 
-    /// Its DBID; `None` where it has none.
+    /// The flit's DBID; `None` where it has none.
     /// Source: `docs/TRACES.md`, "Traces".
     #[inline(always)]
     pub fn dbid(&self) -> Option<DbId>
@@ -120,7 +120,7 @@ impl Flit {
         if self.has_dbid { Some(self.dbid) } else { None }
     }
 
-    /// Of a request whether AllowRetry is 1: it spends no credit.
+    /// Whether AllowRetry is 1, of a request: it spends no credit.
     /// Source: `docs/TRACES.md`, "Traces".
     #[inline(always)]
     pub fn allows_retry(&self) -> bool

@@ -11,28 +11,24 @@ ghost use Rattle.chi_issue_b.specs.declared.opcodes.Opcode.{Opcode as OpcodeOf};
 pub fn each_opcode_has_one_row()
     ensures own { (opcode : OpcodeOf) → (row_of opcode).opcode ≡ opcode }
     ensures each { (channel : ChannelOf) → HasOwnRows channel }
-{
-}
+{}
 
 /// The word of an opcode names it among all of its channel, so no two have one word.
 /// Source: `docs/TRACES.md`, "Other opcodes".
 pub fn words_differ()
     ensures own { (opcode : OpcodeOf) → opcode_named (channel_of opcode) (word_of opcode) ≡ Some opcode }
     ensures each { (channel : ChannelOf) → HasOwnWords channel }
-{
-}
+{}
 
 /// Each number of an opcode names it among all of its channel, so no two share a number.
 /// Source: Arm IHI 0050 Issue B, chapter 12.
 pub fn numbers_differ()
     ensures own { (opcode : OpcodeOf) → opcode_numbered (channel_of opcode) (number_of opcode) ≡ Some opcode }
     ensures each { (channel : ChannelOf) → HasOwnNumbers channel }
-{
-}
+{}
 
 /// The word of a Resp names it.
 /// Source: `docs/TRACES.md`, "Traces".
 pub fn resp_words_differ()
     ensures { HasRespWords }
-{
-}
+{}

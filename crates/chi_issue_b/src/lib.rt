@@ -14,6 +14,8 @@ mod opcodes;
 mod resp;
 mod roles;
 mod table;
+#[cfg(test)]
+mod tests;
 
 pub use beat::Beat;
 pub use channels::Channel;

@@ -8,7 +8,7 @@ use crate::roles::Role;
 use crate::table::{named_in, numbered_in, row_of, rows_of};
 use std::fmt;
 
-/// A request's opcode. It is named as the standard names it; its word, number and role are a row of the table.
+/// A request's opcode. Named as in the standard; its word, number and role are a row of the table.
 /// Source: Arm IHI 0050 Issue B, chapter 12; `docs/TRACES.md`, "Other opcodes".
 #[derive(Clone, Copy, Debug, PartialEq, Eq)]
 pub enum RequestOpcode {
@@ -49,7 +49,7 @@ pub enum RequestOpcode {
     PrefetchTgt,
 }
 
-/// A snoop's opcode. It is named as the standard names it; its word, number and role are a row of the table.
+/// A snoop's opcode. Named as in the standard; its word, number and role are a row of the table.
 /// Source: Arm IHI 0050 Issue B, chapter 12; `docs/TRACES.md`, "Other opcodes".
 #[derive(Clone, Copy, Debug, PartialEq, Eq)]
 pub enum SnoopOpcode {
@@ -74,7 +74,7 @@ pub enum SnoopOpcode {
     SnpUniqueFwd,
 }
 
-/// The opcode of a response without data. It is named as the standard names it; its word, number and role are a row of the table.
+/// The opcode of a response without data. Named as in the standard; its word, number and role are a row of the table.
 /// Source: Arm IHI 0050 Issue B, chapter 12; `docs/TRACES.md`, "Other opcodes".
 #[derive(Clone, Copy, Debug, PartialEq, Eq)]
 pub enum ResponseOpcode {
@@ -90,7 +90,7 @@ pub enum ResponseOpcode {
     SnpRespFwded,
 }
 
-/// The opcode of data. It is named as the standard names it; its word, number and role are a row of the table.
+/// The opcode of data. Named as in the standard; its word, number and role are a row of the table.
 /// Source: Arm IHI 0050 Issue B, chapter 12; `docs/TRACES.md`, "Other opcodes".
 #[derive(Clone, Copy, Debug, PartialEq, Eq)]
 pub enum DataOpcode {
