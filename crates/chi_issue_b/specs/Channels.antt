@@ -1,5 +1,6 @@
 -- The channels of flits, by their words (docs/TRACES.md, "Traces").
-use Rattle.std.specs.Prelude.{ℕ, List, Option, Some, None, if◌then◌else◌, bytes_eq, codes}
+use Rattle.std.specs.Prelude.{ℕ, List, [], ◌∷◌, Option, bytes_eq, codes}
+use Rattle.std.specs.List.{find}
 use Rattle.chi_issue_b.specs.declared.channels.Channel.{Channel}
 use Rattle.chi_issue_b.specs.declared.channels.Channel.TheVariants.{Req, Snp, Rsp, Dat}
 
@@ -10,9 +11,8 @@ channel_word Rsp = codes "RSP"
 channel_word Dat = codes "DAT"
 
 -- the channel that a word names
+abbrev pub channels : List Channel
+channels = Req ∷ Snp ∷ Rsp ∷ Dat ∷ []
+
 abbrev pub channel_named : List ℕ → Option Channel
-channel_named word =
-    if bytes_eq word (channel_word Req) then Some Req else (
-    if bytes_eq word (channel_word Snp) then Some Snp else (
-    if bytes_eq word (channel_word Rsp) then Some Rsp else (
-    if bytes_eq word (channel_word Dat) then Some Dat else None)))
+channel_named word = find (λ channel. bytes_eq word (channel_word channel)) channels

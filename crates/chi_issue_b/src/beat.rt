@@ -34,6 +34,7 @@ impl Beat {
 
     /// The word of this number; `None` where it is in another beat.
     /// Source: `docs/TRACES.md`, "Traces".
+    #[inline(always)]
     pub fn word(&self, number: usize) -> Option<u64>
         requires { number < 8 }
         ensures { result ≡ word_in self.now number }
@@ -47,6 +48,7 @@ impl Beat {
 
     /// Gives the beat a word.
     /// Source: `docs/TRACES.md`, "Traces".
+    #[inline(always)]
     pub fn put(&mut self, number: usize, word: u64)
         requires { number < 8 }
         ensures { (n : ℕ) → n < 8 → word_in self.new n ≡ (if n == number then Some word else word_in self.old n) }
@@ -57,6 +59,7 @@ impl Beat {
 
     /// Whether the beat has all words of its line.
     /// Source: `docs/TRACES.md`, "Traces".
+    #[inline(always)]
     pub fn is_whole(&self) -> bool
         ensures { result ≡ is_whole self.now }
     {

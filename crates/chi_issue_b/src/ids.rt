@@ -36,6 +36,7 @@ pub struct CacheLine {
 impl PcrdType {
     /// The credit type of a number; `None` above 15.
     /// Source: `docs/TRACES.md`, "Traces".
+    #[inline(always)]
     pub fn from_number(number: u8) -> Option<PcrdType>
         ensures { result ≡ credit_type_numbered number }
     {
@@ -50,6 +51,7 @@ impl PcrdType {
 impl CacheLine {
     /// The cache line that has the byte at this address.
     /// Source: `docs/TRACES.md`, "Traces".
+    #[inline(always)]
     pub fn at(address: u64) -> CacheLine
         ensures { result ≡ line_at address }
     {
@@ -60,6 +62,7 @@ impl CacheLine {
 
     /// The address of the line's first byte.
     /// Source: `docs/TRACES.md`, "Traces".
+    #[inline(always)]
     pub fn address(self) -> u64
         ensures { result ≡ self.address }
     {

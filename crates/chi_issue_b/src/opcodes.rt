@@ -121,6 +121,7 @@ pub enum Opcode {
 impl Opcode {
     /// The channel that flits of the opcode use.
     /// Source: `docs/TRACES.md`, "Traces".
+    #[inline(always)]
     pub fn channel(self) -> Channel
         ensures { result ≡ channel_of self }
     {
@@ -134,6 +135,7 @@ impl Opcode {
 
     /// The word that names the opcode, as the standard writes it.
     /// Source: `docs/TRACES.md`, "Traces".
+    #[inline(always)]
     pub fn word(self) -> &'static str
         ensures { result.now ≡ word_of self }
     {
@@ -142,6 +144,7 @@ impl Opcode {
 
     /// The number of the opcode on its channel, the first of them where it has several.
     /// Source: Arm IHI 0050 Issue B, chapter 12.
+    #[inline(always)]
     pub fn number(self) -> u8
         ensures { result ≡ number_of self }
     {
@@ -150,6 +153,7 @@ impl Opcode {
 
     /// What flits of the opcode do to the ids that are open.
     /// Source: `docs/OBSERVER.md`, "Ids and credits".
+    #[inline(always)]
     pub fn role(self) -> Role
         ensures { result ≡ role_of self }
     {
@@ -158,6 +162,7 @@ impl Opcode {
 
     /// Whether flits of the opcode carry words of a cache line: all on `DAT` but DataLCrdReturn and WriteDataCancel.
     /// Source: `docs/TRACES.md`, "Traces".
+    #[inline(always)]
     pub fn carries_data(self) -> bool
         ensures { result ≡ carries_data self }
     {

@@ -53,6 +53,7 @@ static RESPS: [Row; 10] = [
 impl Resp {
     /// The word that a trace writes.
     /// Source: `docs/TRACES.md`, "Traces".
+    #[inline(always)]
     #[tactic(auto, unfolding(crate::specs::Resp::row_of, crate::specs::Resp::rows))]
     pub fn word(self) -> &'static str
         ensures { result.now ≡ resp_word self }
@@ -62,6 +63,7 @@ impl Resp {
 
     /// The three bits of the field.
     /// Source: Arm IHI 0050 Issue B, chapter 12.
+    #[inline(always)]
     #[tactic(auto, unfolding(crate::specs::Resp::row_of, crate::specs::Resp::rows))]
     pub fn number(self) -> u8
         ensures { result ≡ resp_number self }

@@ -103,6 +103,7 @@ pub(crate) static DATA_FLITS: [Row; 8] = [
 ];
 
 /// The rows of a channel.
+#[inline(always)]
 #[tactic(auto, unfolding(crate::specs::Opcodes::rows_of))]
 pub(crate) fn rows_of(channel: Channel) -> &'static [Row]
     ensures { map lent_row result.now ≡ rows_of channel }
@@ -116,6 +117,7 @@ pub(crate) fn rows_of(channel: Channel) -> &'static [Row]
 }
 
 /// The row of an opcode.
+#[inline(always)]
 #[tactic(auto, unfolding(crate::specs::Opcodes::row_of, crate::specs::Opcodes::rows_of))]
 pub(crate) fn row_of(opcode: Opcode) -> &'static Row
     ensures { lent_row result.now ≡ row_of opcode }
