@@ -1,7 +1,7 @@
 //! The opcodes of Issue B.
 
 ghost use Rattle.std.specs.Prelude.{◌≡◌};
-ghost use Rattle.chi_issue_b.specs.Opcodes.{channel_of, number_of, opcode_named, opcode_numbered, role_of, word_of, carries_data};
+ghost use Rattle.chi_issue_b.specs.Opcodes.{carries_data, channel_of, number_of, opcode_named, opcode_numbered, role_of, word_of};
 
 use crate::channels::Channel;
 use crate::roles::Role;
@@ -104,7 +104,7 @@ pub enum DataOpcode {
     WriteDataCancel,
 }
 
-/// An opcode, by its channel.
+/// An opcode, by its channel. Prints as its word.
 /// Source: Arm IHI 0050 Issue B, chapter 12; `docs/TRACES.md`, "Traces".
 #[derive(Clone, Copy, Debug, PartialEq, Eq)]
 pub enum Opcode {

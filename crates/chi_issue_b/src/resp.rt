@@ -33,6 +33,7 @@ pub enum RespUse {
 }
 
 /// A Resp, its word, its number, and whether completions and answers to snoops may have it.
+// A tuple, as a clause can cite a constant of these, and none of a struct with a reference in it.
 type Row = (Resp, &'static str, u8, bool, bool);
 
 /// All of them, in the order of [`Resp`]. In answers 2 is `UC` or `UD`, and 6 is `UC_PD` or `UD_PD`.

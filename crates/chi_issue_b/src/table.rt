@@ -8,6 +8,7 @@ use crate::opcodes::{DataOpcode, Opcode, RequestOpcode, ResponseOpcode, SnoopOpc
 use crate::roles::Role;
 
 /// An opcode, its word, its first number, how many numbers it has, its role, and whether its flits carry words of a cache line.
+// A tuple, as a clause can cite a constant of these, and none of a struct with a reference in it.
 pub(crate) type Row = (Opcode, &'static str, u8, u8, Role, bool);
 
 /// The opcodes of requests. In the order of [`RequestOpcode`], by number.
