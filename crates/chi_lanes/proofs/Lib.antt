@@ -1,0 +1,4 @@
+pub mod MaskLemmas
+pub mod PackLemmas
+pub mod RunLemmas
+pub mod WorthLemmas

@@ -1,0 +1,10 @@
+//! The bytes of a line of text, many at once: where its columns stand, and what its hexadecimal digits say.
+//!
+//! Source: `docs/TRACES.md`, "Traces".
+#![tactic(auto)]
+
+mod digits;
+mod masks;
+
+pub use digits::{Digits, number_at, sixteen};
+pub use masks::{blanks, equal_to};
