@@ -3,8 +3,9 @@
 //! Source: `docs/TRACES.md`, "Traces".
 #![tactic(auto)]
 
+mod bits;
 mod digits;
 mod masks;
 
 pub use digits::{Digits, number_at, sixteen};
-pub use masks::{blanks, equal_to};
+pub use masks::{blanks, blanks_within, equal_to, line_blanks};
