@@ -1,4 +1,7 @@
 pub mod BitLemmas
+pub mod ColumnLemmas
+pub mod EdgeLemmas
+pub mod FirstLemmas
 pub mod MaskLemmas
 pub mod PackLemmas
 pub mod PadLemmas

@@ -1,5 +1,5 @@
 -- Masks of 64 bits, a bit for each byte.
-use Rattle.std.proofs.Common.{◌≡◌, ℕ, zero, suc, ◌+◌, ◌%◌, ◌^◌, ◌<◌, ◌≤◌, ◌==◌, ◌||◌, max, List, [], ◌∷◌, Bool, true, false, cond, length, get_or, map, replicate, refl, ap, ◌∙◌, arith, w8, bit_or, nat_lt}
+use Rattle.std.proofs.Common.{◌≡◌, ℕ, zero, suc, ◌%◌, ◌^◌, ◌≤◌, ◌||◌, max, List, [], ◌∷◌, Bool, true, false, cond, length, get_or, map, replicate, refl, ap, ◌∙◌, w8, bit_or}
 use Rattle.std.specs.Int.{bit_at}
 use Rattle.std.specs.Simd.Lanes.{zip2, mask_l, top}
 use Rattle.std.proofs.lemmas.Simd.{bit_mask_l, bitmask_splat}

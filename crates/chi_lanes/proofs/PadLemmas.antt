@@ -1,11 +1,11 @@
 -- Masks of a line, and of the bytes behind it.
-use Rattle.std.proofs.Common.{◌≡◌, ℕ, ◌+◌, ◌-◌, ◌<◌, ◌≤◌, ◌||◌, List, ◌++◌, Bool, true, false, cond, max, length, get_or, take, drop, map, nat_le, replicate, refl, sym, ap, subst, ◌∙◌, arith, length-append, ⊎_elim, bit_or}
+use Rattle.std.proofs.Common.{◌≡◌, ℕ, ◌+◌, ◌-◌, ◌<◌, ◌≤◌, ◌||◌, List, ◌++◌, Bool, true, false, cond, max, length, get_or, drop, nat_le, replicate, refl, sym, ap, ◌∙◌, arith, length-append, ⊎_elim, bit_or}
 use Rattle.std.specs.Int.{bit_at}
 use Rattle.std.proofs.lemmas.Bool.{cases_lt}
 use Rattle.std.proofs.lemmas.Bool.Decides.{nat_tests}
 use Rattle.std.proofs.lemmas.List.{get_or-append_right, get_or-drop, get_or-map, get_or_append_left, get_or_past, length-drop}
 use Rattle.std.proofs.lemmas.Nat.Bits.{bit_at_or}
-use Rattle.std.proofs.lemmas.Simd.{get_or-chunk, get_or-replicate, length-chunk, length-replicate}
+use Rattle.std.proofs.lemmas.Simd.{get_or-chunk, get_or-replicate, length-chunk}
 use Rattle.chi_lanes.specs.Columns.{MarksBlanks, blank_at}
 use Rattle.chi_lanes.specs.Masks.{Marks, bytes_at, is_blank}
 

@@ -1,12 +1,12 @@
 -- A run of digits among sixteen bytes, and the number that it writes.
-use Rattle.std.proofs.Common.{◌≡◌, ◌≢◌, ℕ, zero, suc, ◌+◌, ◌-◌, ◌*◌, ◌/◌, ◌%◌, ◌^◌, ◌<◌, ◌≤◌, nat_le, nat_lt, List, [], ◌∷◌, ◌++◌, Bool, true, false, cond, length, get_or, take, drop, map, Option, Some, None, is_some, refl, sym, ap, subst, ◌∙◌, arith, shr-shr, w64, length-append, pow_mono}
-use Rattle.std.specs.Int.{bit_at, trailing_ones}
+use Rattle.std.proofs.Common.{◌≡◌, ℕ, zero, suc, ◌+◌, ◌-◌, ◌*◌, ◌/◌, ◌%◌, ◌^◌, ◌<◌, ◌≤◌, nat_lt, List, [], ◌∷◌, ◌++◌, Bool, true, false, cond, length, get_or, take, drop, map, Option, Some, None, is_some, refl, sym, ap, subst, ◌∙◌, arith, shr-shr, w64, length-append, pow_mono}
+use Rattle.std.specs.Int.{trailing_ones}
 use Rattle.std.specs.Option.{unwrap_or}
 use Rattle.std.specs.Simd.Lanes.{mask_l}
 use Rattle.std.proofs.lemmas.Simd.{bit_mask_l, get_or-chunk, length-chunk, mask_l-lt}
 use Rattle.std.proofs.lemmas.Bool.Decides.{nat_tests}
 use Rattle.std.proofs.lemmas.List.{drop-map, drop_all, length-drop, length-map, length-take-le, take-append-drop, take-append-le, take-map}
-use Rattle.std.proofs.lemmas.Nat.{mod_below, mod_low, mul-add-lt, mul-le, pow-add, pow_pos, shl_below, shr_high, shr_le}
+use Rattle.std.proofs.lemmas.Nat.{mod_below, mod_low, mul-add-lt, mul-le, pow-add, shl_below, shr_high, shr_le}
 use Rattle.std.proofs.Math.Seq.{drop-cons}
 use Rattle.std.proofs.lemmas.Nat.Bits.{bit_at-trailing_ones, same_from_bits}
 use Rattle.chi_lanes.specs.declared.digits.Digits.{Digits}

@@ -1,5 +1,5 @@
 -- What a byte is worth as a digit, as 16 lanes compute it.
-use Rattle.std.proofs.Common.{◌≡◌, ℕ, ◌+◌, ◌-◌, ◌%◌, ◌^◌, ◌<◌, List, [], ◌∷◌, Bool, cond, length, get_or, map, replicate, refl, sym, ap, subst, ◌∙◌, arith, w8, bit_or, Fits, nat_lt}
+use Rattle.std.proofs.Common.{◌≡◌, ℕ, ◌+◌, ◌-◌, ◌%◌, ◌<◌, List, [], ◌∷◌, cond, length, get_or, map, replicate, refl, sym, ap, subst, ◌∙◌, arith, w8, bit_or, Fits, nat_lt}
 use Rattle.std.specs.List.{range_with_len}
 use Rattle.std.specs.Simd.Lanes.{zip2, sel_l, top, Each1}
 use Rattle.std.proofs.lemmas.List.FromFn.{get_or-map-range_with_len}

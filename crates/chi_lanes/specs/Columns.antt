@@ -1,5 +1,5 @@
 -- The columns of a line: what stands between blanks (docs/TRACES.md, "Traces").
-use Rattle.std.specs.Prelude.{ℕ, zero, suc, ◌≡◌, ◌+◌, ◌%◌, ◌<◌, ◌≤◌, ◌==◌, ◌&&◌, nat_lt, nat_le, Bool, true, false, not, List, [], ◌∷◌, filter, slice_index_or, if◌then◌else◌}
+use Rattle.std.specs.Prelude.{ℕ, zero, suc, ◌≡◌, ◌+◌, ◌%◌, ◌<◌, Bool, true, false, List, [], ◌∷◌, filter, slice_index_or, if◌then◌else◌}
 use Rattle.std.specs.Int.{bit_at}
 use Rattle.std.specs.List.{slice_split}
 use Rattle.chi_lanes.specs.Masks.{is_blank}

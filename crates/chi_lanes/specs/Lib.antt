@@ -1,3 +1,4 @@
 pub mod Columns
+pub mod Cursors
 pub mod Masks
 pub mod Numbers

@@ -4,8 +4,10 @@
 #![tactic(auto)]
 
 mod bits;
+mod columns;
 mod digits;
 mod masks;
 
+pub use columns::{Columns, first_blank};
 pub use digits::{Digits, number_at, sixteen};
 pub use masks::{blanks, blanks_within, equal_to, line_blanks};

@@ -1,6 +1,5 @@
-use Rattle.std.proofs.Common.{◌≡◌, ◌<◌, List, ◌++◌, length, drop, replicate, subst, arith, ℕ}
+use Rattle.std.proofs.Common.{◌≡◌, List, ◌++◌, length, drop, replicate, subst, ℕ}
 use Rattle.chi_lanes.proofs.PadLemmas.{line_marks, padded_marks}
-use Rattle.chi_lanes.specs.Columns.{MarksBlanks}
 use Rattle.chi_lanes.specs.Masks.{Marks, bytes_at, is_blank}
 use Rattle.chi_lanes.proofs.masks.line_blanks.Goals as goal
 

@@ -1,4 +1,3 @@
-use Rattle.std.proofs.Common.{◌≡◌, ℕ, arith}
 use Rattle.chi_lanes.proofs.RunLemmas.{no_run, run_number}
 use Rattle.chi_lanes.proofs.digits.Digits.number.Goals as goal
 

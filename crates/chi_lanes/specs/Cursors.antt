@@ -1,0 +1,28 @@
+-- Where the columns of a line begin and end.
+use Rattle.std.specs.Prelude.{ℕ, zero, suc, ◌≡◌, ◌≢◌, ◌+◌, ◌<◌, ◌≤◌, ◌&&◌, nat_le, Bool, true, not, List, ◌∷◌, drop, length, slice_range, if◌then◌else◌}
+use Rattle.std.specs.Int.{bit_at}
+use Rattle.chi_lanes.specs.Columns.{blank_at, columns_of}
+
+-- whether a blank stands before a place, or nothing
+abbrev pub blank_before : List ℕ → ℕ → Bool
+blank_before line zero = true
+blank_before line (suc k) = blank_at line k
+
+-- whether a column begins or ends at a place
+abbrev pub is_edge : List ℕ → ℕ → Bool
+is_edge line k = if blank_at line k then not (blank_before line k) else blank_before line k
+
+-- the edges from a place on, which stands behind a blank, among the first 64 places
+pub record HasEdges (line : List ℕ) (at edges : ℕ) : Type 0 where
+  pub begins : blank_before line at ≡ true
+  pub marks : (k : ℕ) → k < 64 → bit_at edges k ≡ (if nat_le at k && is_edge line k then 1 else 0)
+
+-- where some edges are known, they are all that there are
+abbrev pub IsCursor : List ℕ → ℕ → ℕ → Type 0
+IsCursor line at edges = edges ≢ 0 → HasEdges line at edges
+
+-- the first column of a text begins and ends at these places
+pub record IsFirstColumn (text : List ℕ) (start end : ℕ) : Type 0 where
+  pub within : end ≤ length text
+  pub some : start < end
+  pub parted : columns_of text ≡ slice_range text start end ∷ columns_of (drop (end + 1) text)
