@@ -1,5 +1,5 @@
 -- Where the columns of a line begin and end.
-use Rattle.std.specs.Prelude.{ℕ, zero, suc, ◌≡◌, ◌≢◌, ◌+◌, ◌<◌, ◌≤◌, ◌&&◌, nat_le, Bool, true, not, List, ◌∷◌, drop, length, slice_range, if◌then◌else◌}
+use Rattle.std.specs.Prelude.{ℕ, zero, suc, ◌≡◌, ◌≢◌, ◌+◌, ◌<◌, ◌≤◌, ◌&&◌, nat_le, Bool, true, not, List, ◌∷◌, drop, take, length, slice_range, if◌then◌else◌}
 use Rattle.std.specs.Int.{bit_at}
 use Rattle.chi_lanes.specs.Columns.{blank_at, columns_of}
 
@@ -17,9 +17,14 @@ pub record HasEdges (line : List ℕ) (at edges : ℕ) : Type 0 where
   pub begins : blank_before line at ≡ true
   pub marks : (k : ℕ) → k < 64 → bit_at edges k ≡ (if nat_le at k && is_edge line k then 1 else 0)
 
--- where some edges are known, they are all that there are
-abbrev pub IsCursor : List ℕ → ℕ → ℕ → Type 0
-IsCursor line at edges = edges ≢ 0 → HasEdges line at edges
+-- where some edges are known of the first bytes, they are all that there are
+pub record IsCursor (bytes : List ℕ) (size at edges : ℕ) : Type 0 where
+  pub within : size ≤ length bytes
+  pub known : edges ≢ 0 → HasEdges (take size bytes) at edges
+
+-- a text of one byte or more among so many
+abbrev pub IsPlace : ℕ → ℕ → ℕ → Type 0
+IsPlace start end size = (start < end) × (end ≤ size)
 
 -- the first column of a text begins and ends at these places
 pub record IsFirstColumn (text : List ℕ) (start end : ℕ) : Type 0 where

@@ -1,22 +1,75 @@
 //! The columns of a line, by a mask of its blanks.
 
-ghost use Rattle.std.specs.Prelude.{◌≡◌, ◌+◌, ◌<◌, ◌≤◌, List, ℕ, [], ◌∷◌, drop, false, length, not, slice_get, slice_range, MatchOption};
+ghost use Rattle.std.specs.Prelude.{◌≡◌, ◌+◌, ◌<◌, ◌≤◌, List, ℕ, [], ◌∷◌, drop, false, length, not, slice_get, slice_range, take, MatchOption};
 ghost use Rattle.std.specs.List.{position};
-ghost use Rattle.std.specs.Option.{option_map};
 ghost use Rattle.chi_lanes.specs.Columns.{blank_at, columns_of};
-ghost use Rattle.chi_lanes.specs.Cursors.{IsCursor, IsFirstColumn};
+ghost use Rattle.chi_lanes.specs.Cursors.{IsCursor, IsFirstColumn, IsPlace};
 ghost use Rattle.chi_lanes.specs.Masks.{is_blank};
+ghost use Rattle.chi_lanes.specs.Numbers.{number_of};
 
 use crate::bits::{changes, lowest, without};
-use crate::masks::{blanks, blanks_within, line_blanks};
+use crate::digits::number_at;
+use crate::masks::{blanks, line_blanks};
 use std::marker::Model;
 
-/// The columns of a line that are still to come, each a text between blanks. Those that end among the line's first 64
-/// bytes come by a mask of their ends; any further on is looked for.
+/// A column of a line: a text between blanks, of one byte or more.
+/// Source: `docs/TRACES.md`, "Traces".
+#[derive(Drop)]
+pub struct Column<'a> {
+    /// What has the text, and maybe more behind.
+    bytes: &'a [u8],
+    start: usize,
+    end: usize,
+}
+
+impl<'a> Model for Column<'a> {
+    ghost Value = { List ℕ };
+
+    ghost view = { λ column. slice_range column.bytes.now column.start column.end };
+
+    ghost invariant = { λ column. IsPlace column.start column.end (length column.bytes.now) };
+}
+
+impl<'a> Column<'a> {
+    /// Its text.
+    /// Source: `docs/TRACES.md`, "Traces".
+    #[inline(always)]
+    pub fn text(&self) -> &'a [u8]
+        ensures { result.now ≡ self.now }
+    {
+        &self.bytes[self.start..self.end]
+    }
+
+    /// How many bytes it has.
+    /// Source: `docs/TRACES.md`, "Traces".
+    #[inline(always)]
+    pub fn size(&self) -> usize
+        ensures size { result ≡ length self.now }
+        ensures some { 0 < result }
+    {
+        self.end - self.start
+    }
+
+    /// The number that it writes, of up to sixteen hexadecimal digits. `None` where one of its bytes is no digit.
+    /// Source: `docs/TRACES.md`, "Traces".
+    #[inline(always)]
+    pub fn number(&self) -> Option<u64>
+        requires { length self.now ≤ 16 }
+        ensures { result ≡ number_of self.now }
+    {
+        number_at(self.bytes, self.start, self.end)
+    }
+}
+
+/// The columns of a line that are still to come. Those that end among the line's first 64 bytes come by a mask of their
+/// ends; any further on is looked for.
 /// Source: `docs/TRACES.md`, "Traces".
 #[derive(Drop)]
 pub struct Columns<'a> {
-    line: &'a [u8],
+    /// The line, and what stands behind it.
+    bytes: &'a [u8],
+    /// How many of them are the line's.
+    size: usize,
     /// Where the next column begins at the earliest.
     at: usize,
     /// Where columns begin and end from there on, among the first 64 bytes; none once the next isn't among them.
@@ -26,46 +79,33 @@ pub struct Columns<'a> {
 impl<'a> Model for Columns<'a> {
     ghost Value = { List (List ℕ) };
 
-    ghost view = { λ columns. columns_of (drop columns.at columns.line.now) };
+    ghost view = { λ columns. columns_of (drop columns.at (take columns.size columns.bytes.now)) };
 
-    ghost invariant = { λ columns. IsCursor columns.line.now columns.at columns.edges };
+    ghost invariant = { λ columns. IsCursor columns.bytes.now columns.size columns.at columns.edges };
 }
 
 impl<'a> Columns<'a> {
-    /// The columns of a line.
+    /// The columns of the line that the first `size` of the bytes are. None is copied where there are 64 bytes, be they
+    /// the line's or not.
     /// Source: `docs/TRACES.md`, "Traces".
     #[inline(always)]
-    pub fn of(line: &'a [u8]) -> Columns<'a>
-        ensures { result ≡ columns_of line.now }
+    pub fn of(bytes: &'a [u8], size: usize) -> Columns<'a>
+        requires { size ≤ length bytes.now }
+        ensures { result ≡ columns_of (take size bytes.now) }
     {
         Columns {
-            line,
+            bytes,
+            size,
             at: 0,
-            edges: changes(line_blanks(line)),
-        }
-    }
-
-    /// The columns of the line that stands from one place up to another. No byte is copied where 64 stand from the
-    /// first place on, be they the line's or not.
-    /// Source: `docs/TRACES.md`, "Traces".
-    #[inline(always)]
-    pub fn within(bytes: &'a [u8], from: usize, to: usize) -> Columns<'a>
-        requires ordered { from ≤ to }
-        requires within { to ≤ length bytes.now }
-        ensures { result ≡ columns_of (slice_range bytes.now from to) }
-    {
-        Columns {
-            line: &bytes[from..to],
-            at: 0,
-            edges: changes(blanks_within(bytes, from, to)),
+            edges: changes(line_blanks(bytes, size)),
         }
     }
 
     /// The next column, which is taken. `None` where there is no other.
     /// Source: `docs/TRACES.md`, "Traces".
     #[inline(always)]
-    pub fn next_column(&mut self) -> Option<&'a [u8]>
-        ensures first { option_map (λ column. column.now) result ≡ slice_get self.old 0 }
+    pub fn next_column(&mut self) -> Option<Column<'a>>
+        ensures first { result ≡ slice_get self.old 0 }
         ensures rest { self.new ≡ drop 1 self.old }
     {
         if self.edges == 0 {
@@ -79,21 +119,30 @@ impl<'a> Columns<'a> {
         let end = lowest(behind);
         self.edges = without(behind, end);
         self.at = end + 1;
-        Some(&self.line[start..end])
+        Some(Column {
+            bytes: self.bytes,
+            start,
+            end,
+        })
     }
 
     /// The next column, wherever it ends.
     #[inline(never)]
-    fn far_column(&mut self) -> Option<&'a [u8]>
-        ensures first { option_map (λ column. column.now) result ≡ slice_get self.old 0 }
+    fn far_column(&mut self) -> Option<Column<'a>>
+        ensures first { result ≡ slice_get self.old 0 }
         ensures rest { self.new ≡ drop 1 self.old }
     {
         self.edges = 0;
-        let rest = behind(self.line, self.at);
-        match first_column(rest) {
+        let line = &self.bytes[..self.size];
+        match first_column(behind(line, self.at)) {
             Some((start, end)) => {
+                let from = self.at;
                 self.at += end + 1;
-                Some(&rest[start..end])
+                Some(Column {
+                    bytes: self.bytes,
+                    start: from + start,
+                    end: from + end,
+                })
             }
             None => None,
         }

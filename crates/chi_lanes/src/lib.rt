@@ -8,6 +8,6 @@ mod columns;
 mod digits;
 mod masks;
 
-pub use columns::{Columns, first_blank};
+pub use columns::{Column, Columns, first_blank};
 pub use digits::{Digits, number_at, sixteen};
-pub use masks::{blanks, blanks_within, equal_to, line_blanks};
+pub use masks::{blanks, equal_to, line_blanks};

@@ -1,6 +1,6 @@
 //! Where the bytes of one kind stand among 64.
 
-ghost use Rattle.std.specs.Prelude.{◌≡◌, ◌+◌, ◌≤◌, ◌==◌, length, slice_range};
+ghost use Rattle.std.specs.Prelude.{◌≡◌, ◌+◌, ◌≤◌, ◌==◌, length, take};
 ghost use Rattle.chi_lanes.specs.Columns.{MarksBlanks};
 ghost use Rattle.chi_lanes.specs.Masks.{Marks, bytes_at, is_blank};
 
@@ -31,33 +31,18 @@ pub fn blanks(bytes: &[u8], at: usize) -> u64
 }
 
 /// Which of the first 64 bytes of a line are blanks: bit `k` of the mask is set exactly if byte `k` is one, or stands
-/// behind the line's end.
+/// behind the line's end. The line is the first `size` of the bytes; no byte is copied where there are 64.
 /// Source: `docs/TRACES.md`, "Traces".
 #[inline(always)]
-pub fn line_blanks(line: &[u8]) -> u64
-    ensures { MarksBlanks result line.now }
+pub fn line_blanks(bytes: &[u8], size: usize) -> u64
+    requires { size ≤ length bytes.now }
+    ensures { MarksBlanks result (take size bytes.now) }
 {
-    if line.len() >= 64 {
-        blanks(line, 0)
+    if bytes.len() >= 64 {
+        blanks(bytes, 0) | from_bit(size)
     } else {
         let mut front = [b' '; 64];
-        front[..line.len()].copy_from_slice(line);
+        front[..size].copy_from_slice(&bytes[..size]);
         blanks(&front, 0)
-    }
-}
-
-/// Which of the first 64 bytes of a line are blanks, as [`line_blanks`] says, of the line that stands from one place up
-/// to another. No byte is copied where 64 stand from the first place on, be they the line's or not.
-/// Source: `docs/TRACES.md`, "Traces".
-#[inline(always)]
-pub fn blanks_within(bytes: &[u8], from: usize, to: usize) -> u64
-    requires ordered { from ≤ to }
-    requires within { to ≤ length bytes.now }
-    ensures { MarksBlanks result (slice_range bytes.now from to) }
-{
-    if bytes.len() - from >= 64 {
-        blanks(bytes, from) | from_bit(to - from)
-    } else {
-        line_blanks(&bytes[from..to])
     }
 }
