@@ -31,3 +31,9 @@ pub record IsFirstColumn (text : List ℕ) (start end : ℕ) : Type 0 where
   pub within : end ≤ length text
   pub some : start < end
   pub parted : columns_of text ≡ slice_range text start end ∷ columns_of (drop (end + 1) text)
+
+-- the first column of a line from a place on begins and ends at these places
+pub record IsNextColumn (line : List ℕ) (at start end : ℕ) : Type 0 where
+  pub within : end ≤ length line
+  pub some : start < end
+  pub parted : columns_of (drop at line) ≡ slice_range line start end ∷ columns_of (drop (end + 1) line)

@@ -3,7 +3,7 @@
 ghost use Rattle.std.specs.Prelude.{◌≡◌, ◌+◌, ◌<◌, ◌≤◌, List, ℕ, [], ◌∷◌, drop, false, length, not, slice_get, slice_range, take, MatchOption};
 ghost use Rattle.std.specs.List.{position};
 ghost use Rattle.chi_lanes.specs.Columns.{blank_at, columns_of};
-ghost use Rattle.chi_lanes.specs.Cursors.{IsCursor, IsFirstColumn, IsPlace};
+ghost use Rattle.chi_lanes.specs.Cursors.{IsCursor, IsFirstColumn, IsNextColumn, IsPlace};
 ghost use Rattle.chi_lanes.specs.Masks.{is_blank};
 ghost use Rattle.chi_lanes.specs.Numbers.{number_of};
 
@@ -108,16 +108,22 @@ impl<'a> Columns<'a> {
         ensures first { result ≡ slice_get self.old 0 }
         ensures rest { self.new ≡ drop 1 self.old }
     {
-        if self.edges == 0 {
-            return self.far_column();
+        if self.edges != 0 {
+            let start = lowest(self.edges);
+            let behind = without(self.edges, start);
+            if behind != 0 {
+                let end = lowest(behind);
+                self.edges = without(behind, end);
+                self.at = end + 1;
+                return Some(Column {
+                    bytes: self.bytes,
+                    start,
+                    end,
+                });
+            }
         }
-        let start = lowest(self.edges);
-        let behind = without(self.edges, start);
-        if behind == 0 {
-            return self.far_column();
-        }
-        let end = lowest(behind);
-        self.edges = without(behind, end);
+        self.edges = 0;
+        let (start, end) = far_column(self.bytes, self.size, self.at)?;
         self.at = end + 1;
         Some(Column {
             bytes: self.bytes,
@@ -125,28 +131,16 @@ impl<'a> Columns<'a> {
             end,
         })
     }
+}
 
-    /// The next column, wherever it ends.
-    #[inline(never)]
-    fn far_column(&mut self) -> Option<Column<'a>>
-        ensures first { result ≡ slice_get self.old 0 }
-        ensures rest { self.new ≡ drop 1 self.old }
-    {
-        self.edges = 0;
-        let line = &self.bytes[..self.size];
-        match first_column(behind(line, self.at)) {
-            Some((start, end)) => {
-                let from = self.at;
-                self.at += end + 1;
-                Some(Column {
-                    bytes: self.bytes,
-                    start: from + start,
-                    end: from + end,
-                })
-            }
-            None => None,
-        }
-    }
+/// Where the next column of a line begins, and where it ends, from a place on.
+#[inline(never)]
+fn far_column(bytes: &[u8], size: usize, at: usize) -> Option<(usize, usize)>
+    requires { size ≤ length bytes.now }
+    ensures { MatchOption result (columns_of (drop at (take size bytes.now)) ≡ []) (λ place. IsNextColumn (take size bytes.now) at place.0 place.1) }
+{
+    let (start, end) = first_column(behind(&bytes[..size], at))?;
+    Some((at + start, at + end))
 }
 
 /// What stands from a place on; nothing behind the end.

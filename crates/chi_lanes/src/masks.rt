@@ -27,7 +27,11 @@ pub fn blanks(bytes: &[u8], at: usize) -> u64
     requires { at + 64 ≤ length bytes.now }
     ensures { Marks result is_blank (bytes_at bytes.now at 64) }
 {
-    equal_to(bytes, at, b' ') | equal_to(bytes, at, b'\t') | equal_to(bytes, at, b'\r')
+    let bytes = u8x64::from_slice(&bytes[at..]);
+    let spaces = bytes.simd_eq(u8x64::splat(b' '));
+    let tabs = bytes.simd_eq(u8x64::splat(b'\t'));
+    let returns = bytes.simd_eq(u8x64::splat(b'\r'));
+    (spaces | tabs | returns).to_bitmask()
 }
 
 /// Which of the first 64 bytes of a line are blanks: bit `k` of the mask is set exactly if byte `k` is one, or stands
