@@ -1,17 +1,16 @@
 -- The first column of a text, by its bytes.
-use Rattle.std.proofs.Common.{◌≡◌, ℕ, zero, suc, ◌+◌, ◌-◌, ◌<◌, ◌≤◌, List, [], ◌∷◌, ◌++◌, Bool, true, false, not, cond, length, get_or, nat_lt, take, drop, filter, Option, Some, None, refl, sym, ap, subst, ◌∙◌, arith, ⊎_elim}
+use Rattle.std.proofs.Common.{◌≡◌, ℕ, zero, suc, ◌+◌, ◌-◌, ◌<◌, ◌≤◌, List, [], ◌∷◌, ◌++◌, Bool, true, false, not, cond, length, get_or, nat_lt, take, drop, filter, Some, None, refl, sym, ap, subst, ◌∙◌, arith, ⊎_elim}
 use Rattle.std.specs.List.{position, position_or_len}
-use Rattle.std.specs.Option.{unwrap_or}
 use Rattle.std.proofs.lemmas.Bool.{cases_lt}
 use Rattle.std.proofs.lemmas.Bool.Decides.{nat_tests}
-use Rattle.std.proofs.lemmas.List.{drop_all, get_or-drop, get_or_past, length-drop, take-append-drop, take_rest}
+use Rattle.std.proofs.lemmas.List.{drop-drop, drop_all, get_or-drop, get_or_past, length-drop, take-append-drop, take_rest}
 use Rattle.std.proofs.lemmas.List.Quantifiers.{position-Some}
 use Rattle.std.proofs.lemmas.List.Splits.{slice_split-cons_yes, slice_split_at, slice_split_none}
 use Rattle.std.proofs.lemmas.List.Sums.{fails_before_first}
 use Rattle.std.proofs.lemmas.Simd.{get_or-chunk, length-chunk}
 use Rattle.std.proofs.Math.Seq.{drop-cons}
 use Rattle.chi_lanes.specs.Columns.{blank_at, columns_of, has_bytes}
-use Rattle.chi_lanes.specs.Cursors.{IsFirstColumn}
+use Rattle.chi_lanes.specs.Cursors.{IsEnd, IsStart}
 use Rattle.chi_lanes.specs.Masks.{is_blank}
 
 -- blanks in front
@@ -98,7 +97,17 @@ column_at (b ∷ bs) (suc start) size some within blanks column ends =
     (subst (λ n. blank_at (b ∷ bs) n ≡ true) (at size) ends)
     ∙ ap (λ n. take size (drop start bs) ∷ columns_of (drop n (b ∷ bs))) (sym next))
 
--- the first column, by where its first byte and the first blank behind that stand
+-- a place in a line, counted from another on
+back : (from k : ℕ) → from ≤ k → from + (k - from) ≡ k
+back from k h = omega arith
+
+behind_at : (line : List ℕ) (from k : ℕ) → from ≤ k → blank_at (drop from line) (k - from) ≡ blank_at line k
+behind_at line from k h = ap is_blank (get_or-drop from line (k - from) 32) ∙ ap (blank_at line) (back from k h)
+
+ahead_at : (line : List ℕ) (from k : ℕ) → blank_at (drop from line) k ≡ blank_at line (from + k)
+ahead_at line from k = ap is_blank (get_or-drop from line k 32)
+
+-- what a search for the first byte that is no blank finds
 not_true : (b : Bool) → not b ≡ true → b ≡ false
 not_true true e = absurd (cc e)
 not_true false e = refl
@@ -110,52 +119,110 @@ not_false false e = absurd (cc e)
 nowhere : (n m : ℕ) → None ≡ cond (nat_lt n m) (Some n) None → m ≤ n
 nowhere n m e = grind (arith, nat_tests)
 
-record IsEnd (rest : List ℕ) (size : ℕ) : Type 0 where
-  within : size ≤ length rest
-  before : (k : ℕ) → k < size → blank_at rest k ≡ false
-  ends : blank_at rest size ≡ true
+abbrev bare : ℕ → Bool
+bare b = not (is_blank b)
 
-end_is : (rest : List ℕ) (o : Option ℕ) → o ≡ position is_blank rest → IsEnd rest (unwrap_or o (length rest))
-end_is rest None e = record {
-  within = omega arith;
-  before = λ k low. fails_before_first is_blank rest k 32 (omega (arith, nowhere (position_or_len is_blank rest) (length rest) e));
-  ends = ap is_blank (get_or_past rest (length rest) 32 (omega arith));
-}
-end_is rest (Some i) e =
-    let at = position-Some is_blank rest i 32 (sym e) in
-    record { within = omega (arith, at.0); before = at.2; ends = at.1 }
-
-first_has : (text : List ℕ) (size : ℕ) → IsEnd text size → blank_at text 0 ≡ false → 0 < size
-first_has text zero is bare = absurd (let e = is.ends in cc (bare, e))
-first_has text (suc size) is bare = omega arith
-
-start_is : (text : List ℕ) (start size : ℕ) → start < length text → AllBlank text start → blank_at text start ≡ false → IsEnd (drop start text) size → IsFirstColumn text start (start + size)
-start_is text start size low blanks bare is =
-    let rest = drop start text in
-    let long : length rest ≡ length text - start = length-drop start text in
-    let inside : size ≤ length rest = is.within in
-    let at = λ (k : ℕ). ap is_blank (get_or-drop start text k 32) in
-    let here : start + 0 ≡ start = omega arith in
-    let some : 0 < size = first_has rest size is (at 0 ∙ (ap (blank_at text) here ∙ bare)) in
-    let back : start + size - start ≡ size = omega arith in
+pub start_some : (line : List ℕ) (at start : ℕ) → Some start ≡ position bare (drop at line) → IsStart line at (at + start)
+start_some line at start e =
+    let rest = drop at line in
+    let place = position-Some bare rest start 32 (sym e) in
+    let low : start < length rest = place.0 in
+    let long : length rest ≡ length line - at = length-drop at line in
     record {
       within = omega arith;
-      some = omega arith;
-      parted =
-          column_at text start size some (omega arith) blanks (λ k under. sym (at k) ∙ is.before k under) (sym (at size) ∙ is.ends)
-          ∙ ap (λ n. take n (drop start text) ∷ columns_of (drop (start + size + 1) text)) (sym back);
+      blanks = λ k from under. sym (behind_at line at k from) ∙ not_false (blank_at rest (k - at)) (place.2 (k - at) (omega arith));
+      found = λ inside. (omega arith, sym (ahead_at line at start) ∙ not_true (blank_at rest start) place.1);
     }
 
-pub first_is : (text : List ℕ) (start : ℕ) (o : Option ℕ) (size : ℕ) → Some start ≡ position (λ b. not (is_blank b)) text
-    → o ≡ position is_blank (take (length text - start) (drop start text)) → size ≡ unwrap_or o (length (take (length text - start) (drop start text))) → IsFirstColumn text start (start + size)
-first_is text start o size e f g =
-    let at = position-Some (λ b. not (is_blank b)) text start 32 (sym e) in
-    let rest = take (length text - start) (drop start text) in
-    let end = subst (IsEnd rest) (sym g) (end_is rest o f) in
-    let same : rest ≡ drop start text = take_rest text start in
-    start_is text start size at.0 (λ k low. not_false (blank_at text k) (at.2 k low)) (not_true (blank_at text start) at.1) (subst (λ xs. IsEnd xs size) same end)
+pub start_none : (line : List ℕ) (at : ℕ) → None ≡ position bare (drop at line) → IsStart line at (length line)
+start_none line at e =
+    let rest = drop at line in
+    let all : length rest ≤ position_or_len bare rest = nowhere (position_or_len bare rest) (length rest) e in
+    let long : length rest ≡ length line - at = length-drop at line in
+    record {
+      within = omega arith;
+      blanks = λ k from under. sym (behind_at line at k from) ∙ not_false (blank_at rest (k - at)) (fails_before_first bare rest (k - at) 32 (omega arith));
+      found = λ inside. absurd (omega (arith, inside));
+    }
 
-pub none_is : (text : List ℕ) → None ≡ position (λ b. not (is_blank b)) text → columns_of text ≡ []
-none_is text e =
-    let test = λ (b : ℕ). not (is_blank b) in
-    blanks_alone text (λ k low. not_false (blank_at text k) (fails_before_first test text k 32 (omega (arith, nowhere (position_or_len test text) (length text) e))))
+-- and for the first blank
+pub end_some : (line : List ℕ) (start size : ℕ) → start ≤ length line → Some size ≡ position is_blank (take (length line - start) (drop start line)) → IsEnd line start (start + size)
+end_some line start size room e =
+    let rest = drop start line in
+    let place = position-Some is_blank rest size 32 (sym (e ∙ ap (position is_blank) (take_rest line start))) in
+    let low : size < length rest = place.0 in
+    let long : length rest ≡ length line - start = length-drop start line in
+    record {
+      from = omega arith;
+      within = omega arith;
+      column = λ k from under. sym (behind_at line start k from) ∙ place.2 (k - start) (omega arith);
+      ends = sym (ahead_at line start size) ∙ place.1;
+    }
+
+pub end_none : (line : List ℕ) (start : ℕ) → start ≤ length line → None ≡ position is_blank (take (length line - start) (drop start line)) → IsEnd line start (length line)
+end_none line start room e =
+    let rest = drop start line in
+    let all : length rest ≤ position_or_len is_blank rest = nowhere (position_or_len is_blank rest) (length rest) (e ∙ ap (position is_blank) (take_rest line start)) in
+    let long : length rest ≡ length line - start = length-drop start line in
+    record {
+      from = room;
+      within = omega arith;
+      column = λ k from under. sym (behind_at line start k from) ∙ fails_before_first is_blank rest (k - start) 32 (omega arith);
+      ends = ap is_blank (get_or_past line (length line) 32 (omega arith));
+    }
+
+-- the columns of a line from a place on, by where the next begins and ends
+pub ordered : (line : List ℕ) (at start end : ℕ) → IsStart line at start → start < length line → IsEnd line start end → start < end
+ordered line at start end begins inside ends =
+    ⊎_elim (λ low. low) (λ high.
+    let from : start ≤ end = ends.from in
+    let same : start ≡ end = omega arith in
+    let e : false ≡ true = sym (begins.found inside).1 ∙ (ap (blank_at line) same ∙ ends.ends) in
+    absurd (cc e)) (cases_lt start end)
+
+pub next_is : (line : List ℕ) (at start end : ℕ) → IsStart line at start → start < length line → IsEnd line start end → columns_of (drop at line) ≡ take (end - start) (drop start line) ∷ columns_of (drop (end + 1) line)
+next_is line at start end begins inside ends =
+    let from : at ≤ start = (begins.found inside).0 in
+    let low : start < end = ordered line at start end begins inside ends in
+    let within : end ≤ length line = ends.within in
+    let text = drop at line in
+    let long : length text ≡ length line - at = length-drop at line in
+    let skip = start - at in
+    let size = end - start in
+    let last : at + (skip + size) ≡ end = omega arith in
+    let first : at + skip ≡ start = omega arith in
+    let rest : at + (skip + size + 1) ≡ end + 1 = omega arith in
+    let moved = λ (k : ℕ). let e : at + (skip + k) ≡ start + k = omega arith in e in
+    column_at text skip size (omega arith) (omega arith) (λ k under. ahead_at line at k ∙ begins.blanks (at + k) (omega arith) (omega arith))
+    (λ k under. ahead_at line at (skip + k) ∙ (ap (blank_at line) (moved k) ∙ ends.column (start + k) (omega arith) (omega arith)))
+    (ahead_at line at (skip + size) ∙ (ap (blank_at line) last ∙ ends.ends))
+    ∙ (λ i. take size ((drop-drop skip at line ∙ ap (λ n. drop n line) first) i) ∷ columns_of ((drop-drop (skip + size + 1) at line ∙ ap (λ n. drop n line) rest) i))
+
+pub none_next : (line : List ℕ) (at start : ℕ) → IsStart line at start → start ≡ length line → columns_of (drop at line) ≡ []
+none_next line at start begins e =
+    let long : length (drop at line) ≡ length line - at = length-drop at line in
+    blanks_alone (drop at line) (λ k low. ahead_at line at k ∙ begins.blanks (at + k) (omega arith) (omega arith))
+
+-- blanks in front may be left out
+skipped : (text : List ℕ) (n : ℕ) → AllBlank text n → n ≤ length text → columns_of (drop n text) ≡ columns_of text
+skipped text zero all room = refl
+skipped [] (suc n) all room = absurd (omega (arith, room))
+skipped (b ∷ bs) (suc n) all room = skipped bs n (λ k low. all (suc k) (omega arith)) (omega (arith, room)) ∙ sym (behind_blank b bs (all 0 (omega arith)))
+
+pub rest_is : (line : List ℕ) (at start : ℕ) → IsStart line at start → columns_of (drop start line) ≡ columns_of (drop at line)
+rest_is line at start begins =
+    let room : start ≤ length line = begins.within in
+    let long : length (drop at line) ≡ length line - at = length-drop at line in
+    ⊎_elim (λ inside.
+    let from : at ≤ start = (begins.found inside).0 in
+    let there : at + (start - at) ≡ start = omega arith in
+    ap columns_of (sym (drop-drop (start - at) at line ∙ ap (λ n. drop n line) there))
+    ∙ skipped (drop at line) (start - at) (λ k low. ahead_at line at k ∙ begins.blanks (at + k) (omega arith) (omega arith)) (omega arith)) (λ past.
+    let same : start ≡ length line = omega arith in
+    ap columns_of (drop_all start line past) ∙ (no_columns ∙ sym (none_next line at start begins same))) (cases_lt start (length line))
+
+pub rest_first : (line : List ℕ) (at start : ℕ) → IsStart line at start → 0 < length (drop start line) → blank_at (drop start line) 0 ≡ false
+rest_first line at start begins some =
+    let inside : start < length line = omega (arith, length-drop start line) in
+    let here : start + 0 ≡ start = omega arith in
+    ahead_at line start 0 ∙ (ap (blank_at line) here ∙ (begins.found inside).1)

@@ -1,13 +1,11 @@
 -- The next column, by the edges that a mask has.
-use Rattle.std.proofs.Common.{◌≡◌, ◌≢◌, ℕ, zero, suc, ◌+◌, ◌-◌, ◌<◌, ◌≤◌, ◌==◌, ◌&&◌, List, ◌∷◌, Bool, true, false, not, cond, length, nat_le, take, drop, refl, sym, ap, ◌∙◌, arith, ⊎_elim}
-use Rattle.std.specs.Int.{bit_at}
+use Rattle.std.proofs.Common.{◌≡◌, ◌≢◌, ℕ, zero, suc, ◌+◌, ◌-◌, ◌<◌, ◌≤◌, ◌==◌, ◌&&◌, List, Bool, true, false, not, cond, length, nat_le, refl, sym, ap, ◌∙◌, arith, w64, ⊎_elim}
+use Rattle.std.specs.Int.{bit_at, trailing_zeros}
 use Rattle.std.proofs.lemmas.Bool.{cases_lt}
 use Rattle.std.proofs.lemmas.Bool.Decides.{nat_tests}
-use Rattle.std.proofs.lemmas.List.{drop-drop, get_or-drop, length-drop}
-use Rattle.chi_lanes.proofs.ColumnLemmas.{column_at}
 use Rattle.chi_lanes.proofs.PadLemmas.{past}
-use Rattle.chi_lanes.specs.Columns.{blank_at, columns_of}
-use Rattle.chi_lanes.specs.Cursors.{HasEdges, blank_before, is_edge}
+use Rattle.chi_lanes.specs.Columns.{blank_at}
+use Rattle.chi_lanes.specs.Cursors.{HasEdges, IsEnd, IsStart, blank_before, is_edge}
 use Rattle.chi_lanes.specs.Masks.{is_blank}
 
 -- what an edge says of the bytes on both sides
@@ -77,72 +75,67 @@ pub record AreEdges (edges start end : ℕ) : Type 0 where
   pub end_set : bit_at edges end ≡ 1
   pub end_first : (k : ℕ) → start < k → k < end → bit_at edges k ≡ 0
 
--- what stands between them
-record IsBetween (line : List ℕ) (at start end : ℕ) : Type 0 where
-  from : at ≤ start
-  blanks : (k : ℕ) → k < start - at → blank_at line (at + k) ≡ true
-  column : (k : ℕ) → k < end - start → blank_at line (start + k) ≡ false
-  ends : blank_at line end ≡ true
+-- what the lowest edge says, and the one behind it
+record IsFirstEdge (edges start : ℕ) : Type 0 where
+  low : start < 64
+  set : bit_at edges start ≡ 1
+  first : (k : ℕ) → k < start → bit_at edges k ≡ 0
 
-between : (line : List ℕ) (at edges start end : ℕ) → HasEdges line at edges → AreEdges edges start end → IsBetween line at start end
-between line at edges start end has are =
-    let first = edge_at line at edges has start are.start_low are.start_set in
+bare_inside : (line : List ℕ) (k : ℕ) → blank_at line k ≡ false → k < length line
+bare_inside line k bare =
+    ⊎_elim (λ low. low) (λ high.
+    let e : true ≡ false = sym (ap is_blank (past line k high)) ∙ bare in
+    absurd (cc e)) (cases_lt k (length line))
+
+start_of : (line : List ℕ) (at edges start : ℕ) → HasEdges line at edges → IsFirstEdge edges start → (at ≤ start) × IsStart line at start × (start < length line) × (blank_at line start ≡ false)
+start_of line at edges start has is =
+    let here = edge_at line at edges has start is.low is.set in
+    let low : start < 64 = is.low in
+    let from : at ≤ start = here.0 in
+    let there : at + (start - at) ≡ start = omega arith in
+    let none : NoEdges line at (start - at) = λ k l. no_edge_at line at edges has (at + k) (omega arith) (omega arith) (is.first (at + k) (omega arith)) in
+    let before : blank_before line start ≡ true = ap (blank_before line) (sym there) ∙ same_through line at (start - at) true has.begins none in
+    let bare : blank_at line start ≡ false = edge_true (blank_at line start) (blank_before line start) here.1 ∙ ap not before in
+    let inside : start < length line = bare_inside line start bare in (
+      from,
+      record {
+        within = omega arith;
+        blanks = λ k first under. ap (blank_at line) (let e : k ≡ at + (k - at) = omega arith in e) ∙ all_same line at (start - at) true has.begins none (k - at) (omega arith);
+        found = λ any. (from, bare);
+      },
+      inside,
+      bare,
+    )
+
+pub begins_at : (line : List ℕ) (at edges start : ℕ) → HasEdges line at edges → start < 64 → bit_at edges start ≡ 1 → ((k : ℕ) → k < start → bit_at edges k ≡ 0) → IsStart line at start
+begins_at line at edges start has low set first = (start_of line at edges start has (record { low = low; set = set; first = first })).1
+
+first_edge : (edges start end : ℕ) → AreEdges edges start end → IsFirstEdge edges start
+first_edge edges start end are = record { low = are.start_low; set = are.start_set; first = are.start_first }
+
+pub start_by : (line : List ℕ) (at edges start end : ℕ) → HasEdges line at edges → AreEdges edges start end → IsStart line at start × (start < length line)
+start_by line at edges start end has are = let of = start_of line at edges start has (first_edge edges start end are) in (of.1, of.2)
+
+pub end_by : (line : List ℕ) (at edges start end : ℕ) → HasEdges line at edges → AreEdges edges start end → IsEnd line start end
+end_by line at edges start end has are =
+    let of = start_of line at edges start has (first_edge edges start end are) in
     let last = edge_at line at edges has end are.end_low are.end_set in
-    let from : at ≤ start = first.0 in
+    let from : at ≤ start = of.0 in
     let ordered : start < end = are.ordered in
     let low : end < 64 = are.end_low in
-    let there : at + (start - at) ≡ start = omega arith in
     let next : suc start + (end - suc start) ≡ end = omega arith in
-    let none_before : NoEdges line at (start - at) = λ k l. no_edge_at line at edges has (at + k) (omega arith) (omega arith) (are.start_first (at + k) (omega arith)) in
-    let before_start : blank_before line start ≡ true = ap (blank_before line) (sym there) ∙ same_through line at (start - at) true has.begins none_before in
-    let bare : blank_at line start ≡ false = edge_true (blank_at line start) (blank_before line start) first.1 ∙ ap not before_start in
-    let none_within : NoEdges line (suc start) (end - suc start) = λ k l. no_edge_at line at edges has (suc start + k) (omega arith) (omega arith) (are.end_first (suc start + k) (omega arith) (omega arith)) in
-    let before_end : blank_before line end ≡ false = ap (blank_before line) (sym next) ∙ same_through line (suc start) (end - suc start) false bare none_within in
+    let none : NoEdges line (suc start) (end - suc start) = λ k l. no_edge_at line at edges has (suc start + k) (omega arith) (omega arith) (are.end_first (suc start + k) (omega arith) (omega arith)) in
+    let before : blank_before line end ≡ false = ap (blank_before line) (sym next) ∙ same_through line (suc start) (end - suc start) false of.3 none in
+    let column : (k : ℕ) → start ≤ k → k < end → blank_at line k ≡ false = λ k first under. ⊎_elim (λ above.
+    ap (blank_at line) (let e : k ≡ suc start + (k - suc start) = omega arith in e) ∙ all_same line (suc start) (end - suc start) false of.3 none (k - suc start) (omega arith)) (λ same.
+    ap (blank_at line) (let e : k ≡ start = omega arith in e) ∙ of.3) (cases_lt start k) in
+    let back : suc (end - 1) ≡ end = omega arith in
     record {
-      from = from;
-      blanks = all_same line at (start - at) true has.begins none_before;
-      column = column_of line start (end - start) bare (λ k l. all_same line (suc start) (end - suc start) false bare none_within k (omega arith));
-      ends = edge_true (blank_at line end) (blank_before line end) last.1 ∙ ap not before_end;
+      from = omega arith;
+      within = (let inside = bare_inside line (end - 1) (column (end - 1) (omega arith) (omega arith)) in omega (arith, inside));
+      column = column;
+      ends = edge_true (blank_at line end) (blank_before line end) last.1 ∙ ap not before;
     }
-  where
-    column_of : (xs : List ℕ) (from n : ℕ) → blank_at xs from ≡ false → ((k : ℕ) → suc k < n → blank_at xs (suc from + k) ≡ false) → (k : ℕ) → k < n → blank_at xs (from + k) ≡ false
-    column_of xs from n first rest zero l = (let e : from + 0 ≡ from = omega arith in ap (blank_at xs) e) ∙ first
-    column_of xs from n first rest (suc k) l = (let e : from + suc k ≡ suc from + k = omega arith in ap (blank_at xs) e) ∙ rest k l
-
-inside : (line : List ℕ) (start end : ℕ) → start < end → ((k : ℕ) → k < end - start → blank_at line (start + k) ≡ false) → end ≤ length line
-inside line start end ordered column =
-    ⊎_elim (λ short. absurd (
-    let here = column 0 (omega arith) in
-    let same : start + 0 ≡ start = omega arith in
-    ⊎_elim (λ low.
-    let there : start + (length line - start) ≡ length line = omega arith in
-    let e : true ≡ false = sym (ap is_blank (past line (length line) (omega arith))) ∙ (ap (blank_at line) (sym there) ∙ column (length line - start) (omega arith)) in
-    absurd (cc e)) (λ high.
-    let e : true ≡ false = sym (ap is_blank (past line start high)) ∙ (ap (blank_at line) (sym same) ∙ here) in
-    absurd (cc e)) (cases_lt start (length line)))) (λ fits. fits) (cases_lt (length line) end)
-
-pub end_within : (line : List ℕ) (at edges start end : ℕ) → HasEdges line at edges → AreEdges edges start end → end ≤ length line
-end_within line at edges start end has are = let is = between line at edges start end has are in inside line start end are.ordered is.column
-
-pub next_is : (line : List ℕ) (at edges start end : ℕ) → HasEdges line at edges → AreEdges edges start end
-    → columns_of (drop at line) ≡ take (end - start) (drop start line) ∷ columns_of (drop (end + 1) line)
-next_is line at edges start end has are =
-    let is = between line at edges start end has are in
-    let from : at ≤ start = is.from in
-    let ordered : start < end = are.ordered in
-    let within : end ≤ length line = end_within line at edges start end has are in
-    let text = drop at line in
-    let long : length text ≡ length line - at = length-drop at line in
-    let byte = λ (k : ℕ). ap is_blank (get_or-drop at line k 32) in
-    let skip = start - at in
-    let size = end - start in
-    let ends : at + (skip + size) ≡ end = omega arith in
-    let begins : at + skip ≡ start = omega arith in
-    let rest : at + (skip + size + 1) ≡ end + 1 = omega arith in
-    let moved = λ (k : ℕ). let e : at + (skip + k) ≡ start + k = omega arith in e in
-    column_at text skip size (omega arith) (omega arith) (λ k low. byte k ∙ is.blanks k low) (λ k low. byte (skip + k) ∙ (ap (blank_at line) (moved k) ∙ is.column k low))
-    (byte (skip + size) ∙ (ap (blank_at line) ends ∙ is.ends))
-    ∙ (λ i. take size ((drop-drop skip at line ∙ ap (λ n. drop n line) begins) i) ∷ columns_of ((drop-drop (skip + size + 1) at line ∙ ap (λ n. drop n line) rest) i))
 
 -- the edges that are left
 bit_left : (edges start end k : ℕ) → AreEdges edges start end → k ≤ end → cond {A = ℕ} (k == end) 0 (cond (k == start) 0 (bit_at edges k)) ≡ 0
@@ -177,9 +170,9 @@ bit_kept edges start end k ordered above = rw (apart k end (omega arith), apart 
 pub edges_left : (line : List ℕ) (at edges left start end : ℕ) → HasEdges line at edges → AreEdges edges start end
     → ((k : ℕ) → k < 64 → bit_at left k ≡ cond (k == end) 0 (cond (k == start) 0 (bit_at edges k))) → HasEdges line (end + 1) left
 edges_left line at edges left start end has are bits =
-    let is = between line at edges start end has are in
+    let is = end_by line at edges start end has are in
     let next : end + 1 ≡ suc end = omega arith in
-    let from : at ≤ start = is.from in
+    let from : at ≤ start = (edge_at line at edges has start are.start_low are.start_set).0 in
     let ordered : start < end = are.ordered in
     record {
       begins = ap (blank_before line) next ∙ is.ends;
@@ -218,3 +211,7 @@ are_edges edges behind start end start_low start_set start_first bits end_low en
 
     more : (a b : ℕ) → a < b → a ≡ b → ⊥
     more a b l e = omega (arith, l, e)
+
+-- the same, where a lowest bit is named as it is counted
+pub by_value : (mask less low : ℕ) → low ≡ trailing_zeros w64 mask → ((k : ℕ) → k < 64 → bit_at less k ≡ cond (k == trailing_zeros w64 mask) 0 (bit_at mask k)) → (k : ℕ) → k < 64 → bit_at less k ≡ cond (k == low) 0 (bit_at mask k)
+by_value mask less low e bits k under = bits k under ∙ ap (λ t. cond (k == t) 0 (bit_at mask k)) (sym e)

@@ -1,7 +1,7 @@
 -- Where the columns of a line begin and end.
-use Rattle.std.specs.Prelude.{ℕ, zero, suc, ◌≡◌, ◌≢◌, ◌+◌, ◌<◌, ◌≤◌, ◌&&◌, nat_le, Bool, true, not, List, ◌∷◌, drop, take, length, slice_range, if◌then◌else◌}
+use Rattle.std.specs.Prelude.{ℕ, zero, suc, ◌≡◌, ◌≢◌, ◌<◌, ◌≤◌, ◌&&◌, nat_le, Bool, true, false, not, List, take, length, if◌then◌else◌}
 use Rattle.std.specs.Int.{bit_at}
-use Rattle.chi_lanes.specs.Columns.{blank_at, columns_of}
+use Rattle.chi_lanes.specs.Columns.{blank_at}
 
 -- whether a blank stands before a place, or nothing
 abbrev pub blank_before : List ℕ → ℕ → Bool
@@ -26,14 +26,15 @@ pub record IsCursor (bytes : List ℕ) (size at edges : ℕ) : Type 0 where
 abbrev pub IsPlace : ℕ → ℕ → ℕ → Type 0
 IsPlace start end size = (start < end) × (end ≤ size)
 
--- the first column of a text begins and ends at these places
-pub record IsFirstColumn (text : List ℕ) (start end : ℕ) : Type 0 where
-  pub within : end ≤ length text
-  pub some : start < end
-  pub parted : columns_of text ≡ slice_range text start end ∷ columns_of (drop (end + 1) text)
+-- from a place on the next column begins at start, or there is none, and start is the line's end
+pub record IsStart (line : List ℕ) (at start : ℕ) : Type 0 where
+  pub within : start ≤ length line
+  pub blanks : (k : ℕ) → at ≤ k → k < start → blank_at line k ≡ true
+  pub found : start < length line → (at ≤ start) × (blank_at line start ≡ false)
 
--- the first column of a line from a place on begins and ends at these places
-pub record IsNextColumn (line : List ℕ) (at start end : ℕ) : Type 0 where
+-- no blank stands from start up to end, where one stands, or the line ends
+pub record IsEnd (line : List ℕ) (start end : ℕ) : Type 0 where
+  pub from : start ≤ end
   pub within : end ≤ length line
-  pub some : start < end
-  pub parted : columns_of (drop at line) ≡ slice_range line start end ∷ columns_of (drop (end + 1) line)
+  pub column : (k : ℕ) → start ≤ k → k < end → blank_at line k ≡ false
+  pub ends : blank_at line end ≡ true

@@ -1,13 +1,13 @@
 //! The columns of a line, by a mask of its blanks.
 
-ghost use Rattle.std.specs.Prelude.{◌≡◌, ◌+◌, ◌<◌, ◌≤◌, List, ℕ, [], ◌∷◌, drop, false, length, not, slice_get, slice_range, take, MatchOption};
+ghost use Rattle.std.specs.Prelude.{◌≡◌, ◌≢◌, ◌+◌, ◌<◌, ◌≤◌, List, ℕ, [], ◌∷◌, drop, false, length, not, slice_get, slice_range, take};
 ghost use Rattle.std.specs.List.{position};
 ghost use Rattle.chi_lanes.specs.Columns.{blank_at, columns_of};
-ghost use Rattle.chi_lanes.specs.Cursors.{IsCursor, IsFirstColumn, IsNextColumn, IsPlace};
+ghost use Rattle.chi_lanes.specs.Cursors.{HasEdges, IsCursor, IsEnd, IsPlace, IsStart};
 ghost use Rattle.chi_lanes.specs.Masks.{is_blank};
 ghost use Rattle.chi_lanes.specs.Numbers.{number_of};
 
-use crate::bits::{changes, lowest, without};
+use crate::bits::{changes, lowest, without_lowest};
 use crate::digits::number_at;
 use crate::masks::{blanks, line_blanks};
 use std::marker::Model;
@@ -110,10 +110,10 @@ impl<'a> Columns<'a> {
     {
         if self.edges != 0 {
             let start = lowest(self.edges);
-            let behind = without(self.edges, start);
+            let behind = without_lowest(self.edges);
             if behind != 0 {
                 let end = lowest(behind);
-                self.edges = without(behind, end);
+                self.edges = without_lowest(behind);
                 self.at = end + 1;
                 return Some(Column {
                     bytes: self.bytes,
@@ -122,8 +122,13 @@ impl<'a> Columns<'a> {
                 });
             }
         }
+        let line = &self.bytes[..self.size];
+        let start = far_start(line, self.at);
+        if start == self.size {
+            return None;
+        }
+        let end = far_end(line, start);
         self.edges = 0;
-        let (start, end) = far_column(self.bytes, self.size, self.at)?;
         self.at = end + 1;
         Some(Column {
             bytes: self.bytes,
@@ -131,16 +136,41 @@ impl<'a> Columns<'a> {
             end,
         })
     }
+
+    /// The line from its next column on; nothing where there is no other.
+    /// Source: `docs/TRACES.md`, "Traces".
+    #[inline(always)]
+    pub fn rest(&self) -> &'a [u8]
+        ensures columns { columns_of result.now ≡ self.now }
+        ensures first { 0 < length result.now → blank_at result.now 0 ≡ false }
+    {
+        let line = &self.bytes[..self.size];
+        &line[next_start(line, self.at, self.edges)..]
+    }
 }
 
-/// Where the next column of a line begins, and where it ends, from a place on.
-#[inline(never)]
-fn far_column(bytes: &[u8], size: usize, at: usize) -> Option<(usize, usize)>
-    requires { size ≤ length bytes.now }
-    ensures { MatchOption result (columns_of (drop at (take size bytes.now)) ≡ []) (λ place. IsNextColumn (take size bytes.now) at place.0 place.1) }
+/// Where the next column of a line begins, from a place on with these edges: the line's end where none does.
+#[inline(always)]
+fn next_start(line: &[u8], at: usize, edges: u64) -> usize
+    requires { edges ≢ 0 → HasEdges line.now at edges }
+    ensures { IsStart line.now at result }
 {
-    let (start, end) = first_column(behind(&bytes[..size], at))?;
-    Some((at + start, at + end))
+    if edges != 0 {
+        lowest(edges)
+    } else {
+        far_start(line, at)
+    }
+}
+
+/// Where the next column of a line begins, from a place on: the line's end where none does.
+#[inline(never)]
+fn far_start(line: &[u8], at: usize) -> usize
+    ensures { IsStart line.now at result }
+{
+    match column_start(behind(line, at)) {
+        Some(start) => at + start,
+        None => line.len(),
+    }
 }
 
 /// What stands from a place on; nothing behind the end.
@@ -151,14 +181,16 @@ fn behind(text: &[u8], at: usize) -> &[u8]
     if at <= text.len() { &text[at..] } else { &[] }
 }
 
-/// Where the first column of a text begins, and where it ends.
-fn first_column(text: &[u8]) -> Option<(usize, usize)>
-    ensures { MatchOption result (columns_of text.now ≡ []) (λ place. IsFirstColumn text.now place.0 place.1) }
+/// Where the column ends that begins at a place.
+#[inline(never)]
+fn far_end(line: &[u8], start: usize) -> usize
+    requires { start ≤ length line.now }
+    ensures { IsEnd line.now start result }
 {
-    let start = column_start(text)?;
-    let rest = &text[start..];
-    let size = first_blank(rest).unwrap_or(rest.len());
-    Some((start, start + size))
+    match first_blank(&line[start..]) {
+        Some(size) => start + size,
+        None => line.len(),
+    }
 }
 
 /// Where the first byte stands that is no blank.

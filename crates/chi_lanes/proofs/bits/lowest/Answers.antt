@@ -2,7 +2,8 @@ use Rattle.std.proofs.Common.{arith, w64}
 use Rattle.std.proofs.lemmas.Nat.Bits.{bit_at-trailing_zeros}
 use Rattle.chi_lanes.proofs.bits.lowest.Goals as goal
 
-pub returns : goal.returns
-returns c =
-    let h = bit_at-trailing_zeros w64 c.args.mask (omega (arith, c.requires)) c.ranges.mask.fits in
-    record { bound = h.0; set = h.1; below = h.2 }
+pub returns-clause-set : goal.returns-clause-set
+returns-clause-set c = (bit_at-trailing_zeros w64 c.args.mask (omega (arith, c.requires)) c.ranges.mask.fits).1
+
+pub returns-clause-below : goal.returns-clause-below
+returns-clause-below c = (bit_at-trailing_zeros w64 c.args.mask (omega (arith, c.requires)) c.ranges.mask.fits).2
