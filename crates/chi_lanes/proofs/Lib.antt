@@ -2,6 +2,7 @@ pub mod BitLemmas
 pub mod ColumnLemmas
 pub mod EdgeLemmas
 pub mod FirstLemmas
+pub mod LimitLemmas
 pub mod LineLemmas
 pub mod MaskLemmas
 pub mod PackLemmas

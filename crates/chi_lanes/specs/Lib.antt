@@ -1,4 +1,5 @@
 pub mod Columns
 pub mod Cursors
+pub mod Limits
 pub mod Masks
 pub mod Numbers

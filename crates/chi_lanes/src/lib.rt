@@ -6,8 +6,12 @@
 mod bits;
 mod columns;
 mod digits;
+mod laws;
 mod masks;
+#[cfg(test)]
+mod tests;
 
 pub use columns::{Column, Columns, first_blank};
 pub use digits::{Digits, number_at, sixteen};
+pub use laws::limits;
 pub use masks::{blanks, equal_to, line_blanks};

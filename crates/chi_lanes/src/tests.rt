@@ -1,0 +1,144 @@
+//! Each byte in each lane, and lines beside a plain walk.
+
+use crate::columns::{Columns, first_blank};
+use crate::digits::sixteen;
+use crate::masks::{blanks, equal_to, line_blanks};
+
+/// What a trace is made of, blanks more often than others, and bytes beside digits and blanks.
+const BYTES: [u8; 32] = *b"  \t\r 09afAF/:@G`gx,-_ R\x00\x80\xff\n  12\r";
+
+/// A number at random behind another.
+fn next(number: u64) -> u64 {
+    let first = number ^ (number << 13);
+    let second = first ^ (first >> 7);
+    second ^ (second << 17)
+}
+
+/// A line of this many bytes at random.
+fn line(size: usize, seed: u64) -> [u8; 200] {
+    let mut bytes = [b' '; 200];
+    let mut number = seed;
+    for at in 0..200 {
+        if at < size {
+            number = next(number);
+            bytes[at] = BYTES[((number >> 20) % 32) as usize];
+        }
+    }
+    bytes
+}
+
+/// Whether the byte is one of the three blanks.
+fn parts(byte: u8) -> bool {
+    matches!(byte, b' ' | b'\t' | b'\r')
+}
+
+/// What the byte is worth.
+fn worth(byte: u8) -> Option<u64> {
+    match byte {
+        b'0'..=b'9' => Some(u64::from(byte) - 48),
+        b'a'..=b'f' => Some(u64::from(byte) - 87),
+        b'A'..=b'F' => Some(u64::from(byte) - 55),
+        _ => None,
+    }
+}
+
+/// Whether masks tell of this byte in this lane, beside others.
+fn is_told(byte: u8, lane: usize, other: u8) -> bool {
+    let mut bytes = [other; 64];
+    bytes[lane % 64] = byte;
+    let bit = 1 << (lane % 64);
+    let rest = u64::MAX ^ bit;
+    let blank = (if parts(byte) { bit } else { 0 }) | (if parts(other) { rest } else { 0 });
+    let equal = bit | (if byte == other { rest } else { 0 });
+    blanks(&bytes, 0) == blank
+        && equal_to(&bytes, 0, byte) == equal
+        && line_blanks(&bytes, 64) == blank
+}
+
+/// Whether sixteen digits have this byte as one of them.
+fn is_worth(byte: u8, lane: usize, other: u8, whole: u64) -> bool {
+    let mut bytes = [other; 16];
+    bytes[lane % 16] = byte;
+    let shift = 4 * (15 - lane % 16);
+    match (worth(byte), sixteen(&bytes)) {
+        (Some(worth), Some(number)) => number == (whole & !(15 << shift)) | (worth << shift),
+        (None, None) => true,
+        _ => false,
+    }
+}
+
+/// Whether each byte is told in this lane.
+fn is_lane(lane: usize) -> bool {
+    (0..=255u8).all(|byte| {
+        is_told(byte, lane, b'a')
+            && is_told(byte, lane, b' ')
+            && is_worth(byte, lane, b'7', 0x7777_7777_7777_7777)
+            && is_worth(byte, lane, b'F', u64::MAX)
+    })
+}
+
+/// The number that these bytes write, digit by digit.
+fn written(text: &[u8]) -> Option<u64> {
+    let mut number = 0u64;
+    for byte in text {
+        number = (number << 4) | worth(*byte)?;
+    }
+    Some(number)
+}
+
+/// Whether the next column is this text, and what is left begins with it.
+fn is_next(columns: &mut Columns<'_>, text: &[u8]) -> bool {
+    let rest = columns.rest();
+    match columns.next_column() {
+        None => false,
+        Some(column) => {
+            column.text() == text
+                && rest.starts_with(text)
+                && (column.size() > 16 || column.number() == written(text))
+        }
+    }
+}
+
+/// Whether the columns of a line are those that a plain walk finds.
+fn is_walked(bytes: &[u8], size: usize) -> bool {
+    if size > bytes.len() {
+        return false;
+    }
+    let mut columns = Columns::of(bytes, size);
+    let mut begun = 0;
+    for at in 0..size {
+        if parts(bytes[at]) {
+            if begun < at && !is_next(&mut columns, &bytes[begun..at]) {
+                return false;
+            }
+            begun = at + 1;
+        }
+    }
+    if begun < size && !is_next(&mut columns, &bytes[begun..size]) {
+        return false;
+    }
+    columns.rest().is_empty() && columns.next_column().is_none()
+}
+
+/// Whether lines of this size are walked alike, as they are and with more behind them.
+fn is_size(size: usize) -> bool {
+    (1..40u64).all(|seed| {
+        let bytes = line(size, seed.wrapping_mul(0x9e37_79b9) ^ size as u64);
+        let first = bytes.iter().position(|byte| parts(*byte));
+        is_walked(&bytes, size % 201)
+            && is_walked(&bytes[..size % 201], size % 201)
+            && first_blank(&bytes) == first
+    })
+}
+
+#[test]
+fn lines_beside_a_plain_walk(rt: HostRuntime) {
+    let is_right = (0..200usize).all(is_size);
+    assert!(rt; is_right);
+}
+
+#[test]
+fn each_byte_in_each_lane(rt: HostRuntime) {
+    let is_right = (0..64usize).all(is_lane);
+    assert!(rt; is_right);
+}
