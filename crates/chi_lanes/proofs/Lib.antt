@@ -1,9 +1,11 @@
+pub mod Binds
 pub mod BitLemmas
 pub mod ColumnLemmas
 pub mod EdgeLemmas
 pub mod FirstLemmas
 pub mod LimitLemmas
 pub mod LineLemmas
+pub mod ListLemmas
 pub mod MaskLemmas
 pub mod PackLemmas
 pub mod PadLemmas

@@ -3,7 +3,8 @@ use Rattle.std.proofs.Common.{◌≡◌, ℕ, suc, ◌+◌, ◌-◌, ◌*◌, �
 use Rattle.std.proofs.lemmas.Bool.Decides.{nat_tests}
 use Rattle.std.proofs.lemmas.Nat.{mul-le, pow-add}
 use Rattle.chi_lanes.specs.Limits.{SixteenAreWithin, WithinIsUpTo, digits_within, up_to}
-use Rattle.chi_lanes.specs.Numbers.{and_then, digit_of, digits_after}
+use Rattle.chi_lanes.proofs.Binds.{and_then}
+use Rattle.chi_lanes.specs.Numbers.{digit_of, digits_after}
 
 within : (most n : ℕ) → n ≤ most → Some n ≡ up_to most n
 within most n low = grind (arith, nat_tests)

@@ -11,7 +11,8 @@ use Rattle.std.proofs.Math.Seq.{drop-cons}
 use Rattle.std.proofs.lemmas.Nat.Bits.{bit_at-trailing_ones, same_from_bits}
 use Rattle.chi_lanes.specs.declared.digits.Digits.{Digits}
 use Rattle.chi_lanes.specs.Masks.{Marks, bytes_at}
-use Rattle.chi_lanes.specs.Numbers.{IsOf, and_then, digit_of, digits_after, is_digit, is_small, number_of, packed_after, packed_of, worth_of}
+use Rattle.chi_lanes.proofs.Binds.{and_then}
+use Rattle.chi_lanes.specs.Numbers.{IsOf, digit_of, digits_after, is_digit, is_small, number_of, packed_after, packed_of, worth_of}
 
 -- a digit is worth less than 16, and any other byte is not
 pub small_is : (b : ℕ) → is_small (worth_of b) ≡ is_digit b

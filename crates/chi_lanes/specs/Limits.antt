@@ -1,6 +1,6 @@
 -- Numbers that may not be above a most, digit by digit.
 use Rattle.std.specs.Prelude.{ℕ, ◌≡◌, ◌+◌, ◌-◌, ◌*◌, ◌^◌, ◌≤◌, nat_le, List, [], ◌∷◌, length, Option, Some, None, if◌then◌else◌}
-use Rattle.chi_lanes.specs.Numbers.{and_then, digit_of, digits_after}
+use Rattle.chi_lanes.specs.Numbers.{◌>>=◌, digit_of, digits_after}
 
 -- a number that isn't above the most
 abbrev pub up_to : ℕ → ℕ → Option ℕ
@@ -9,11 +9,11 @@ up_to most n = if nat_le n most then Some n else None
 -- the number that begins with the digits of this one, and goes on with those of a text; none once it is above the most
 unfoldable pub digits_within : ℕ → ℕ → List ℕ → Option ℕ
 digits_within most n [] = Some n
-digits_within most n (d ∷ ds) = and_then (and_then (digit_of d) (λ v. up_to most (n * 16 + v))) (λ m. digits_within most m ds)
+digits_within most n (d ∷ ds) = (digit_of d >>= λ v. up_to most (n * 16 + v)) >>= λ m. digits_within most m ds
 
 -- the whole number is above the most just if it is once on the way
 abbrev pub WithinIsUpTo : Type 0
-WithinIsUpTo = (most n : ℕ) (ds : List ℕ) → n ≤ most → digits_within most n ds ≡ and_then (digits_after n ds) (up_to most)
+WithinIsUpTo = (most n : ℕ) (ds : List ℕ) → n ≤ most → digits_within most n ds ≡ (digits_after n ds >>= up_to most)
 
 -- sixteen digits are never above the most that 64 bits hold
 abbrev pub SixteenAreWithin : Type 0

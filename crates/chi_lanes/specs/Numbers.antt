@@ -14,14 +14,15 @@ digit_of d =
 abbrev pub is_digit : ℕ → Bool
 is_digit d = is_some (digit_of d)
 
-abbrev pub and_then : Option ℕ → (ℕ → Option ℕ) → Option ℕ
-and_then None next = None
-and_then (Some n) next = next n
+infixl 10 ◌>>=◌
+abbrev pub ◌>>=◌ : {A B : Type 0} → Option A → (A → Option B) → Option B
+None >>= next = None
+(Some x) >>= next = next x
 
 -- the number that begins with the digits of this one, and goes on with those of a text
 unfoldable pub digits_after : ℕ → List ℕ → Option ℕ
 digits_after n [] = Some n
-digits_after n (d ∷ ds) = and_then (digit_of d) (λ v. digits_after (n * 16 + v) ds)
+digits_after n (d ∷ ds) = digit_of d >>= λ v. digits_after (n * 16 + v) ds
 
 -- the number that a text of one digit or more writes
 abbrev pub number_of : List ℕ → Option ℕ

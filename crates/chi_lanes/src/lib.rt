@@ -7,6 +7,7 @@ mod bits;
 mod columns;
 mod digits;
 mod laws;
+mod lists;
 mod masks;
 #[cfg(test)]
 mod tests;
@@ -14,4 +15,5 @@ mod tests;
 pub use columns::{Column, Columns, first_blank};
 pub use digits::{Digits, number_at, sixteen};
 pub use laws::limits;
+pub use lists::eight_words;
 pub use masks::{blanks, equal_to, line_blanks};

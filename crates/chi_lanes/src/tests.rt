@@ -2,6 +2,7 @@
 
 use crate::columns::{Columns, first_blank};
 use crate::digits::sixteen;
+use crate::lists::eight_words;
 use crate::masks::{blanks, equal_to, line_blanks};
 
 /// What a trace is made of, blanks more often than others, and bytes beside digits and blanks.
@@ -134,6 +135,41 @@ fn is_size(size: usize) -> bool {
 #[test]
 fn lines_beside_a_plain_walk(rt: HostRuntime) {
     let is_right = (0..200usize).all(is_size);
+    assert!(rt; is_right);
+}
+
+/// A text of eight words.
+const TEXT: &str =
+    "0000000000000000,0000000000000001,0123456789abcdef,FEDCBA9876543210,ffffffffffffffff,8000000000000000,00000000000000aA,7fffffffffffffff";
+
+/// Those that it lists.
+const WORDS: [u64; 8] = [
+    0,
+    1,
+    0x0123_4567_89ab_cdef,
+    0xfedc_ba98_7654_3210,
+    u64::MAX,
+    1 << 63,
+    0xaa,
+    u64::MAX >> 1,
+];
+
+/// Whether the text lists no words with this byte at a place, but the words where it was there before.
+fn is_broken(at: usize, byte: u8) -> bool {
+    let mut bytes = [0; 135];
+    for (place, old) in TEXT.as_bytes().iter().enumerate() {
+        if place < 135 {
+            bytes[place] = if place == at { byte } else { *old };
+        }
+    }
+    let is_kept = TEXT.as_bytes().get(at) == Some(&byte);
+    eight_words(&bytes) == (if is_kept { Some(WORDS) } else { None })
+}
+
+#[test]
+fn words_of_a_list(rt: HostRuntime) {
+    let is_right = (0..135usize).all(|at| is_broken(at, b',') && is_broken(at, b'g'))
+        && eight_words(&TEXT.as_bytes()[1..]).is_none();
     assert!(rt; is_right);
 }
 

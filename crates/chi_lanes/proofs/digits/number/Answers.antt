@@ -1,6 +1,7 @@
 -- A byte more, and the end.
 use Rattle.std.proofs.Common.{◌≡◌, ◌+◌, ◌*◌, Some, None, sym, ap, ◌∙◌, drop, get_or, arith}
-use Rattle.chi_lanes.specs.Numbers.{and_then, digits_after, digit_of}
+use Rattle.chi_lanes.proofs.Binds.{and_then}
+use Rattle.chi_lanes.specs.Numbers.{digits_after, digit_of}
 use Rattle.chi_lanes.proofs.RunLemmas.{end_of, one_more, room, some_number, wider}
 use Rattle.chi_lanes.proofs.digits.number.Goals as goal
 
