@@ -31,7 +31,7 @@ impl<'a> Model for Column<'a> {
 }
 
 impl<'a> Column<'a> {
-    /// Its text.
+    /// The text of the column.
     /// Source: `docs/TRACES.md`, "Traces".
     #[inline(always)]
     pub fn text(&self) -> &'a [u8]
@@ -40,7 +40,7 @@ impl<'a> Column<'a> {
         &self.bytes[self.start..self.end]
     }
 
-    /// How many bytes it has.
+    /// How many bytes the text has.
     /// Source: `docs/TRACES.md`, "Traces".
     #[inline(always)]
     pub fn size(&self) -> usize

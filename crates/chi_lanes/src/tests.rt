@@ -142,7 +142,7 @@ fn lines_beside_a_plain_walk(rt: HostRuntime) {
 const TEXT: &str =
     "0000000000000000,0000000000000001,0123456789abcdef,FEDCBA9876543210,ffffffffffffffff,8000000000000000,00000000000000aA,7fffffffffffffff";
 
-/// Those that it lists.
+/// The words that it lists.
 const WORDS: [u64; 8] = [
     0,
     1,

@@ -1,6 +1,6 @@
 use Rattle.std.proofs.Common.{◌≡◌, ℕ, ◌+◌, ◌*◌, List, ◌++◌, length, take}
 use Rattle.chi_lanes.specs.Lists.{Lists}
-use Rattle.chi_lanes.proofs.lists.eight_words.Given as goal
+use Rattle.chi_lanes.proofs.lists.read_words.Given as goal
 
 abbrev pub invariant-loop-at : goal.invariant-loop-at
 invariant-loop-at l = record {
