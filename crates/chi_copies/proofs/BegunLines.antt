@@ -8,6 +8,7 @@ use Rattle.std.specs.Prelude.{replicate, nat_lt, Bool, true, false, ◌&&◌, �
 use Rattle.chi_observer.specs.declared.kinds.Snoop.{Snoop}
 use Rattle.chi_observer.specs.declared.kinds.Snoop.TheVariants.{SnpOnce}
 use Rattle.chi_observer.specs.declared.flits.Due.{Due}
+use Rattle.chi_observer.specs.declared.flits.Due.TheVariants.{Nothing}
 use Rattle.chi_observer.specs.declared.flits.Stores.{Stores}
 use Rattle.chi_observer.specs.declared.flits.CacheFlit.{CacheFlit}
 use Rattle.chi_observer.specs.declared.flits.HomeFlit.{HomeFlit}
@@ -24,7 +25,7 @@ use Rattle.chi_copies.specs.Worlds.{all_below, put}
 use Rattle.chi_copies.specs.Moments.{is_issue}
 use Rattle.chi_copies.specs.Observed.{no_words, shown_all}
 use Rattle.chi_copies.specs.Lines.{due_at, issues, may_at, nobody, nothing_due, others_may}
-use Rattle.chi_copies.specs.Begun.{Begun, Behind, apart_from, apart_given, apart_sent, asked_after, asks, agent_in, behind_flit, behind_given, behind_sent, due_in, forgotten, got_begun, is_one, is_plain, is_shown, kept_behind, left_beside, left_over, may_be_left, may_be_moment, may_here, may_then, nothing_begun, others_begun, others_sent, sent_begun, shown_then, some_apart, stand_beside, sure_given, sure_here, sure_sent, sure_then}
+use Rattle.chi_copies.specs.Begun.{Begun, Behind, apart_from, apart_given, apart_sent, asked_after, asks, agent_in, behind_flit, behind_given, behind_sent, due_in, forgotten, got_begun, is_one, is_plain, is_shown, kept_behind, left_beside, left_over, may_be_left, may_be_moment, may_here, may_then, nothing_begun, begun_with, anyone, others_begun, others_sent, sent_begun, shown_then, some_apart, stand_beside, sure_given, sure_here, sure_sent, sure_then}
 use Rattle.chi_copies.specs.BegunLines.{apart_beside, begun, behind_of, copies_at, dues_of, flags_of, left_over_code, no_copies, sets_of, shown_beside, shown_in, snoops_of, stands, sure_of}
 use Rattle.chi_copies.proofs.Finite.{each_held}
 use Rattle.chi_copies.proofs.Put.{here, there, split, alike, unlike}
@@ -77,6 +78,16 @@ pub all_flags : (d : Bool) (xs : List Bool) (T : ℕ → Bool) (k : ℕ) → k �
 all_flags d xs T k e l each past n = by_agent (λ n. slice_index_or xs n d) T
     (λ m low. each m (subst (λ (k : ℕ). m < k) (sym e) low))
     (λ m p. past_list xs m d l p ∙ past m p) n
+
+pub more_dues : (xs : List DueCode) (T : ℕ → Due) (n : ℕ) (x : DueCode) → length xs ≡ 32 → n < 32 → ((m : ℕ) → m < n → dues_of xs m ≡ T m) → due_is x ≡ T n → (m : ℕ) → m < n + 1 → dues_of (slice_set xs n x) m ≡ T m
+more_dues xs T n x l low before now = split (λ m. m < n + 1 → dues_of (slice_set xs n x) m ≡ T m) n
+    (λ _. ap due_is (get_or-set_at xs n n x left_over_code refl (low_list xs n l low)) ∙ now)
+    (λ m apart below. ap due_is (get_or-set_other xs n m x left_over_code apart) ∙ before m (lower m n below apart))
+
+pub all_dues : (xs : List DueCode) (T : ℕ → Due) (k : ℕ) → k ≡ 32 → length xs ≡ 32 → ((m : ℕ) → m < k → dues_of xs m ≡ T m) → ((m : ℕ) → 32 ≤ m → left_over ≡ T m) → (n : ℕ) → dues_of xs n ≡ T n
+all_dues xs T k e l each past n = by_agent (λ n. dues_of xs n) T
+    (λ m low. each m (subst (λ (k : ℕ). m < k) (sym e) low))
+    (λ m p. ap due_is (past_list xs m left_over_code l p) ∙ past m p) n
 
 none_is : (h : Held) → members no_copies h ≡ false
 none_is h = alike_is _ _ (each_held (λ h. alike_bool (members no_copies h) false) refl h)
@@ -294,18 +305,29 @@ first_sets n h = by_agent (λ n. sets_of (replicate 32 plain_code) n h) (λ n. n
     (λ n l. ap (λ x. members x h) (same_or (replicate 32 plain_code) n no_copies plain_code (low_list (replicate 32 plain_code) n refl l) ∙ all_same 32 n plain_code) ∙ plain_is h ∙ sym (ap (λ c. c && is_plain h) (low_is n l)))
     (λ n l. ap (λ x. members x h) (past_list (replicate 32 plain_code) n no_copies refl l) ∙ none_is h ∙ sym (ap (λ c. c && is_plain h) (high_is n l))) n
 
-pub nothing_yet : (z : Stores) → begun (code_of z (replicate 32 left_over_code) (replicate 32 None) true (replicate 32 plain_code) None (replicate 32 false) (replicate 32 true) (replicate 32 true) (replicate 32 true)) ≡ nothing_begun z
-nothing_yet z = begun_same z _ _ _ _ true _ _ None _ _ _ _ _ _ _ _
-    (fun_ext (λ n. ap due_is (all_same 32 n left_over_code)))
+-- what stands for requests from before, past the last agent too
+pub before_past : (asked : List Bool) → length asked ≡ 32 → (m : ℕ) → 32 ≤ m → left_over ≡ (if flags_of asked m then left_over else Nothing)
+before_past asked l m p = sym (ap (λ (c : Bool). if c then left_over else Nothing) (past_list asked m true l p))
+
+pub open_yet : (z : Stores) (due : List DueCode) (asked left : List Bool) → ((n : ℕ) → dues_of due n ≡ (if flags_of asked n then left_over else Nothing))
+    → begun (code_of z due (replicate 32 None) true (replicate 32 plain_code) None (replicate 32 false) asked left (replicate 32 true)) ≡ begun_with z (flags_of asked) (flags_of left)
+open_yet z due asked left e = begun_same z _ _ _ _ true _ _ None _ _ _ _ _ _ _ _
+    (fun_ext e)
     (fun_ext (λ n. all_same 32 n None))
     (fun_ext (λ n. fun_ext (first_sets n)))
     (fun_ext (λ n. all_same 32 n false))
-    (fun_ext (λ n. all_same 32 n true))
-    (fun_ext (λ n. all_same 32 n true))
+    refl
+    refl
     (fun_ext (λ n. all_same 32 n true))
 
+pub nothing_yet : (z : Stores) → begun_with z (flags_of (replicate 32 true)) (flags_of (replicate 32 true)) ≡ nothing_begun z
+nothing_yet z = λ i. begun_with z (each_true i) (each_true i)
+  where
+    each_true : flags_of (replicate 32 true) ≡ anyone
+    each_true = fun_ext (λ n. all_same 32 n true)
+
 -- WHAT IS DUE
-due_low : (due : List DueCode) (m : ℕ) → length due ≡ 32 → m < 32 → due_at due m ≡ dues_of due m
+pub due_low : (due : List DueCode) (m : ℕ) → length due ≡ 32 → m < 32 → due_at due m ≡ dues_of due m
 due_low due m l low = ap due_is (same_or due m nothing_due left_over_code (low_list due m l low))
 
 pub quiet_is : (due : List DueCode) (x : Bool) → length due ≡ 32 → x ≡ all_below 32 (λ m. not (is_busy (due_at due m))) → x ≡ all_below 32 (λ m. not (is_busy (dues_of due m)))

@@ -38,6 +38,8 @@ mod TailLeft
 mod TailMoments
 mod TailRuns
 mod BegunTaken
+mod Counts
+mod Over
 mod PromptSteps
 mod Prompt
 mod PromptGiven

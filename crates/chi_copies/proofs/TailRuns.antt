@@ -8,17 +8,21 @@ use Rattle.chi_observer.specs.declared.flits.Act.{Act}
 use Rattle.chi_observer.specs.declared.flits.Act.TheVariants.{Request, Resend, SnpResp, CompAck, CopyBackWrData, NonCopyBackWrData, Load, Store}
 use Rattle.chi_observer.specs.declared.flits.CacheFlit.{CacheFlit}
 use Rattle.chi_observer.specs.declared.flits.HomeFlit.{HomeFlit}
-use Rattle.chi_copies.specs.Copies.{plain, image}
+use Rattle.chi_observer.specs.declared.flits.Due.TheVariants.{Nothing}
+use Rattle.chi_observer.specs.Rules.{is_resending}
+use Rattle.chi_copies.specs.Copies.{Held, plain, image}
 use Rattle.chi_copies.specs.Rules.{slips}
 use Rattle.chi_copies.specs.Observed.{Observed, Sound, moved, next, given, next_home}
 use Rattle.chi_copies.specs.Moments.{is_issue}
-use Rattle.chi_copies.specs.Runs.{Accepted, seen, shown_by}
-use Rattle.chi_copies.specs.Begun.{Begun, agent_in, act_left_over, is_left_over, takes_begun, behind_sent, behind_given, behind_flit, shown_then, kept_behind, forgotten, forgetting, begun_after, nothing_begun}
-use Rattle.chi_copies.specs.Tails.{Call, flits_of, begun_by, AreTaken, MayMiss, TailsAreTaken, RefusedIsNoTail}
+use Rattle.chi_copies.specs.Worlds.{Public}
+use Rattle.chi_copies.specs.Runs.{Accepted, seen, shown_by, public_of}
+use Rattle.chi_copies.specs.Begun.{Begun, agent_in, act_left_over, is_left_over, takes_begun, behind_sent, behind_given, behind_flit, shown_then, kept_behind, forgotten, forgetting, begun_after, begun_with, left_over, anyone, nothing_begun}
+use Rattle.chi_copies.specs.Tails.{Call, flits_of, begun_by, AreTaken, MayMiss, IsTail, TailsAreTaken, RefusedIsNoTail, LeavesOnly, IsReturn, ReturnsAreTaken, RefusedIsNoReturn}
 use Rattle.chi_copies.specs.Tails.Call.{Taken, Missed, Elsewhere}
-use Rattle.chi_copies.proofs.Finite.{no, left, both, or_left, or_right, by_truth}
+use Rattle.chi_copies.proofs.Finite.{no, left, both, or_left, or_right, by_truth, flip}
 use Rattle.chi_copies.proofs.Put.{there}
 use Rattle.chi_copies.proofs.Loose.{slip_self}
+use Rattle.chi_copies.proofs.TailUnder.{cancelled_so}
 use Rattle.chi_copies.proofs.Leads.{none_some_nat}
 use Rattle.chi_copies.proofs.Moved.{kept}
 use Rattle.chi_copies.proofs.Kept.{home_kept}
@@ -116,29 +120,41 @@ same_stores z [] = refl
 same_stores z (Up f ∷ es) = same_stores z es
 same_stores z (Down g ∷ es) = same_stores z es
 
-begins : (z : Stores) (es : List Flit) → Accepted z es → Follows (seen z es) (shown_by z es) (nothing_begun z)
-begins z es a = record {
-  stores = sym (same_stores z es);
-  agents = λ n low. record {
-    due = λ e. no (sym e);
-    left = λ _. refl;
-    snooped = λ e. no (sym e);
-    gone = λ _. refl;
-    known = λ e. no e;
-    base = record {
-      bases = (seen z es).may n;
-      some = (exact z es a).sound.some n low;
-      inside = λ t y. y;
-      below = λ t y. record { held = plain t.copy; has = both (nat_lt n 32) _ (low_is n low) refl; under = record { copy = refl; cancelled = refl; stored = λ e. no e } };
-      over = λ e. no e;
-      slips = λ h y. record { held = h; has = y; leads = slip_self (seen z es).public.stores ((seen z es).public.due n) h };
+-- no copy is cancelled of which nothing is outstanding
+plain_so : (asked cancelled : Bool) → (asked ≡ false → cancelled ≡ false) → cancelled_so asked false cancelled ≡ true
+plain_so true cancelled f = refl
+plain_so false cancelled f = flip cancelled (f refl)
+
+module _ (z : Stores) (asked left : ℕ → Bool) (es : List Flit) (a : Accepted z es) (only : LeavesOnly asked left (seen z es).public) where
+  abbrev whole : Observed
+  whole = seen z es
+
+  waits_none : (n : ℕ) → n < 32 → (h : Held) → whole.may n h ≡ true → asked n ≡ false → h.cancelled ≡ false
+  waits_none n low h y e = (exact z es a).sound.waits n low (ap is_resending (only.requests n low e)) h y
+
+  begins : Follows (seen z es) (shown_by z es) (begun_with z asked left)
+  begins = record {
+    stores = sym (same_stores z es);
+    agents = λ n low. record {
+      due = λ e. ap (λ (c : Bool). if c then left_over else Nothing) e ∙ sym (only.requests n low e);
+      left = λ e. ap (λ (c : Bool). if c then left_over else Nothing) e;
+      snooped = λ e. sym (only.snoops n low e);
+      gone = λ _. refl;
+      known = λ e. no e;
+      base = record {
+        bases = whole.may n;
+        some = (exact z es a).sound.some n low;
+        inside = λ t y. y;
+        below = λ t y. record { held = plain t.copy; has = both (nat_lt n 32) _ (low_is n low) refl; under = record { copy = refl; cancelled = plain_so (asked n) t.cancelled (waits_none n low t y); stored = λ e. no e } };
+        over = λ e. no e;
+        slips = λ h y. record { held = h; has = y; leads = slip_self whole.public.stores (whole.public.due n) h };
+      };
+      whole = λ e. no e;
     };
-    whole = λ e. no e;
-  };
-  duty = λ _. refl;
-  home = λ p l v e. absurd (none_some_nat v e);
-  moments = λ _ _ _. refl;
-}
+    duty = λ _. refl;
+    home = λ p l v e. absurd (none_some_nat v e);
+    moments = λ _ _ _. refl;
+  }
 
 -- ITS TAIL
 still_accepted : (z : Stores) (e : Flit) (es : List Flit) → Accepted z (e ∷ es) → Accepted z es
@@ -171,27 +187,44 @@ elsewhere : (o : Observed) (shown : ℕ → Bool) (b : Begun) (n : ℕ) → Foll
 elsewhere o shown b n follows sound true low = elsewhere_follows o shown b n follows sound (low refl)
 elsewhere o shown b n follows sound false low = follows
 
-follows_tail : (z : Stores) (cs : List Call) (before : List Flit) → MayMiss z cs → Accepted z (flits_of cs ++ before) → AreTaken z cs × Follows (seen z (flits_of cs ++ before)) (shown_by z (flits_of cs ++ before)) (begun_by z cs)
-follows_tail z [] before m a = (tt, begins z before a)
-follows_tail z (Taken e ∷ cs) before m a =
-    let rest = follows_tail z cs before m (still_accepted z e (flits_of cs ++ before) a) in
-    let goes = goes_on z e (flits_of cs ++ before) (begun_by z cs) a rest.1 in
-    ((rest.0, goes.taken), goes.follows)
-follows_tail z (Missed e ∷ cs) before m a =
-    let rest = follows_tail z cs before m.0 (still_accepted z e (flits_of cs ++ before) a) in
-    let goes = goes_on z e (flits_of cs ++ before) (begun_by z cs) a rest.1 in (
-      rest.0,
-      subst (λ (v : Begun). Follows (seen z (e ∷ flits_of cs ++ before)) (shown_by z (e ∷ flits_of cs ++ before)) v) (sym (missed_is (begun_by z cs) e (low_agent z e (flits_of cs ++ before) a) m.1)) goes.follows,
-    )
-follows_tail z (Elsewhere n ∷ cs) before m a =
-    let rest = follows_tail z cs before m a in
-    (rest.0, elsewhere (seen z (flits_of cs ++ before)) (shown_by z (flits_of cs ++ before)) (begun_by z cs) n rest.1 (exact z (flits_of cs ++ before) a).sound (nat_lt n 32 && ((begun_by z cs).asked n || (begun_by z cs).snooped n)) (λ v. is_low n (left (nat_lt n 32) _ v)))
+module _ (z : Stores) (asked missed : ℕ → Bool) (before : List Flit) (only : LeavesOnly asked missed (public_of z before)) where
+  abbrev first : Begun
+  first = begun_with z asked missed
 
-pub taken : TailsAreTaken
-taken z cs m tail = (follows_tail z cs tail.0 m (accepted z (flits_of cs ++ tail.0) tail.1)).0
+  pub follows_tail : (cs : List Call) → MayMiss first cs → Accepted z (flits_of cs ++ before) → AreTaken first cs × Follows (seen z (flits_of cs ++ before)) (shown_by z (flits_of cs ++ before)) (begun_by first cs)
+  follows_tail [] m a = (tt, begins z asked missed before a (subst (λ (p : Public). LeavesOnly asked missed p) (sym (exact z before a).public) only))
+  follows_tail (Taken e ∷ cs) m a =
+      let rest = follows_tail cs m (still_accepted z e (flits_of cs ++ before) a) in
+      let goes = goes_on z e (flits_of cs ++ before) (begun_by first cs) a rest.1 in
+      ((rest.0, goes.taken), goes.follows)
+  follows_tail (Missed e ∷ cs) m a =
+      let rest = follows_tail cs m.0 (still_accepted z e (flits_of cs ++ before) a) in
+      let goes = goes_on z e (flits_of cs ++ before) (begun_by first cs) a rest.1 in (
+        rest.0,
+        subst (λ (v : Begun). Follows (seen z (e ∷ flits_of cs ++ before)) (shown_by z (e ∷ flits_of cs ++ before)) v) (sym (missed_is (begun_by first cs) e (low_agent z e (flits_of cs ++ before) a) m.1)) goes.follows,
+      )
+  follows_tail (Elsewhere n ∷ cs) m a =
+      let rest = follows_tail cs m a in
+      (rest.0, elsewhere (seen z (flits_of cs ++ before)) (shown_by z (flits_of cs ++ before)) (begun_by first cs) n rest.1 (exact z (flits_of cs ++ before) a).sound (nat_lt n 32 && ((begun_by first cs).asked n || (begun_by first cs).snooped n)) (λ v. is_low n (left (nat_lt n 32) _ v)))
+
+pub returns_taken : ReturnsAreTaken
+returns_taken z asked left cs m r = (follows_tail z asked left r.before r.leaves cs m (accepted z (flits_of cs ++ r.before) r.legal)).0
 
 impossible : false ≡ true → ⊥
 impossible h = search (rules, arith)
+
+pub returns_refused : RefusedIsNoReturn
+returns_refused z asked left e cs m h r = impossible (sym h ∙ (returns_taken z asked left (Taken e ∷ cs) m r).1)
+
+-- where nothing is known all may be open
+leaves_any : (p : Public) → LeavesOnly anyone anyone p
+leaves_any p = record { requests = λ n low e. no (sym e); snoops = λ n low e. no (sym e) }
+
+returns : (z : Stores) (es : List Flit) → IsTail z es → IsReturn z anyone anyone es
+returns z es tail = record { before = tail.0; leaves = leaves_any (public_of z tail.0); legal = tail.1 }
+
+pub taken : TailsAreTaken
+taken z cs m tail = returns_taken z anyone anyone cs m (returns z (flits_of cs) tail)
 
 pub refused : RefusedIsNoTail
 refused z e cs m h tail = impossible (sym h ∙ (taken z (Taken e ∷ cs) m tail).1)

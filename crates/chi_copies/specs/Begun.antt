@@ -282,17 +282,25 @@ forgetting n b = if nat_lt n 32 && (b.asked n || b.snooped n) then forgotten n b
 abbrev pub begun_after : Begun → Flit → Begun
 begun_after b e = if is_left_over b e then forgotten (agent_in e) b else kept_behind (behind_flit b e) (shown_then b e)
 
--- AT FIRST each copy may be any; no agent is 32 or more
-abbrev pub nothing_begun : Stores → Begun
-nothing_begun z = record {
+-- AT FIRST each copy may be any; requests of the agents of asked may be open from before, and snoops of those of left unanswered. No agent
+-- is 32 or more
+abbrev pub begun_with : Stores → (ℕ → Bool) → (ℕ → Bool) → Begun
+begun_with z asked left = record {
   seen = record {
-    public = record { stores = z; due = λ _. left_over; snooped = λ _. None; duty = true };
+    public = record { stores = z; due = λ n. if asked n then left_over else Nothing; snooped = λ _. None; duty = true };
     may = λ n h. nat_lt n 32 && is_plain h;
     home = None;
     news = no_words;
   };
   sure = λ _. false;
-  asked = λ _. true;
-  snooped = λ _. true;
+  asked = asked;
+  snooped = left;
   shown = λ _. true;
 }
+
+-- where nothing is known of what was before, all may
+abbrev pub anyone : ℕ → Bool
+anyone n = true
+
+abbrev pub nothing_begun : Stores → Begun
+nothing_begun z = begun_with z anyone anyone

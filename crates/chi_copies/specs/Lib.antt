@@ -16,5 +16,6 @@ pub mod Begun
 pub mod BegunLines
 pub mod BegunRefusals
 pub mod Tails
+pub mod Unjudged
 pub mod Arriving
 pub mod Prompt

@@ -1,17 +1,19 @@
 //! A line whose trace begins in the middle: of each agent, what it may have, and what may be open from before.
 
-ghost use Rattle.std.specs.Prelude.{◌≡◌, ◌<◌, ◌||◌, IfErr, OnErr, OnOk, Some, is_ok};
+ghost use Rattle.std.specs.Prelude.{◌≡◌, ◌<◌, ◌||◌, ℕ, IfErr, OnErr, OnOk, Some, if◌then◌else◌, is_ok};
+ghost use Rattle.chi_observer.specs.declared.flits.Due.TheVariants.{Nothing};
 ghost use Rattle.chi_observer.specs.declared.flits.Flit.TheVariants.{Down, Up};
-ghost use Rattle.chi_copies.specs.Begun.{act_left_over, begun_after, forgetting, forgotten, grant_left_over, is_left_over, kept_behind, may_be_left, nothing_begun, takes_begun};
+ghost use Rattle.chi_copies.specs.Begun.{act_left_over, begun_after, begun_with, forgetting, forgotten, grant_left_over, is_left_over, kept_behind, left_over, may_be_left, nothing_begun, takes_begun};
 ghost use Rattle.chi_copies.specs.Copies.{Held as HeldOf};
 ghost use Rattle.chi_copies.specs.Sets.{members};
-ghost use Rattle.chi_copies.specs.BegunLines.{begun, behind_of, flags_of, shown_beside};
+ghost use Rattle.chi_copies.specs.BegunLines.{begun, behind_of, dues_of, flags_of, shown_beside};
+ghost use Rattle.chi_copies.specs.Dues.{due_is};
 ghost use Rattle.chi_copies.specs.BegunRefusals.{begun_refusal};
 
 use crate::begun_moments::{code_at, copies_at, flag_at, may_then, shown_then, sure_then};
 use crate::certain::some_apart;
 use crate::copies::Copies;
-use crate::dues::DueCode;
+use crate::dues::{DueCode, NOTHING_DUE};
 use crate::line::{Reason, others_may};
 use chi_flit::{Agent, Data};
 use chi_observer::{Act, CacheFlit, Due, Flit, Grant, HomeFlit, Kind, Snoop, Stores};
@@ -87,22 +89,49 @@ fn may_be_left(due: Due) -> Copies
     }
 }
 
+/// What stands for the request of an agent of which one may be open from before.
+fn code_before(asked: bool) -> DueCode
+    ensures { due_is result ≡ (if asked then left_over else Nothing) }
+{
+    if asked { LEFT_OVER_CODE } else { NOTHING_DUE }
+}
+
+/// What stands for the requests of the agents of which one may be open from before.
+fn due_before(asked: &[bool; 32]) -> [DueCode; 32]
+    ensures { (n : ℕ) → dues_of result n ≡ (if flags_of asked.now n then left_over else Nothing) }
+{
+    let mut due = [LEFT_OVER_CODE; 32];
+    for n in 0..32 {
+        due[n] = code_before(flag_at(asked, n));
+    }
+    due
+}
+
 impl Begun {
     /// A line of which nothing is known: each copy, request, snoop and word may be any.
     /// Source: `docs/COPIES.md`, "A trace that begins in the middle".
     pub fn new(stores: Stores) -> Begun
         ensures { begun result ≡ nothing_begun stores }
     {
+        Begun::with_open(stores, &[true; 32], &[true; 32])
+    }
+
+    /// A line of which nothing is known but what may be open from before: requests of the agents of `asked`, and snoops of those of
+    /// `left`.
+    /// Source: `docs/COPIES.md`, "A line that comes back".
+    pub fn with_open(stores: Stores, asked: &[bool; 32], left: &[bool; 32]) -> Begun
+        ensures { begun result ≡ begun_with stores (flags_of asked.now) (flags_of left.now) }
+    {
         Begun {
             stores,
-            due: [LEFT_OVER_CODE; 32],
+            due: due_before(asked),
             snooped: [None; 32],
             duty: true,
             may: [PLAIN; 32],
             home: None,
             sure: [false; 32],
-            asked: [true; 32],
-            left: [true; 32],
+            asked: *asked,
+            left: *left,
             shown: [true; 32],
         }
     }

@@ -5,7 +5,8 @@ ghost use Rattle.chi_copies.specs.Told.{NewIsTold, TakenIsTold, TakenIsAccepted,
 ghost use Rattle.chi_copies.specs.Runs.{LegalIsAccepted, AcceptedIsLegal, AcceptedIsExact, AcceptedIsCoherent};
 ghost use Rattle.chi_copies.specs.Values.{ReadOnceShowsValue};
 ghost use Rattle.chi_copies.specs.Above.{AboveTakes, StaysAbove, AboveMeansMore, SoundIsAbove, NothingIsAboveAll};
-ghost use Rattle.chi_copies.specs.Tails.{TailsAreTaken, RefusedIsNoTail};
+ghost use Rattle.chi_copies.specs.Tails.{TailsAreTaken, RefusedIsNoTail, ReturnsAreTaken, RefusedIsNoReturn};
+ghost use Rattle.chi_copies.specs.Unjudged.{OverBegunLeavesOnly, OverLeavesRetried};
 ghost use Rattle.chi_copies.specs.Prompt.{BeginsPrompt, PromptFlitsAreTaken, StaysPrompt, StaysPromptGiven, PromptGivenIsTaken, PromptLogsAreTaken};
 
 /// The law that each world that the sets stand for is coherent, that hidden steps lead to just those that they stand for, and that
@@ -74,11 +75,22 @@ pub fn calls()
 {}
 
 /// The law of traces that begin in the middle: each flit of such a trace is taken if some flits before it make the whole one legal, so
-/// behind a flit that isn't taken no trace is legal, whatever was before.
-/// Source: `docs/COPIES.md`, "A trace that begins in the middle".
+/// behind a flit that isn't taken no trace is legal, whatever was before. And of lines that come back: each flit is taken if some flits
+/// before it make the whole trace legal and leave only that outstanding which the line was told of.
+/// Source: `docs/COPIES.md`, "A trace that begins in the middle", "A line that comes back".
 pub fn tails()
     ensures taken { TailsAreTaken }
     ensures refused { RefusedIsNoTail }
+    ensures returns { ReturnsAreTaken }
+    ensures impossible { RefusedIsNoReturn }
+{}
+
+/// The law of what a judged line hands over where it isn't judged from some flit on: once nothing is outstanding, no more is open than
+/// requests that were retried, or may be from before, and snoops that may be.
+/// Source: `docs/COPIES.md`, "A line that comes back".
+pub fn outstanding()
+    ensures line { OverLeavesRetried }
+    ensures begun { OverBegunLeavesOnly }
 {}
 
 /// The law of a log that is taken at the home while nothing is on its way, beside the same log as sent: the two observers begin beside

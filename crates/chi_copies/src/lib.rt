@@ -20,10 +20,12 @@ mod sends;
 mod steps;
 mod tests;
 mod timed;
+mod unjudged;
 
 pub use begun::Begun;
 pub use copies::{Copies, NOBODY};
 pub use dues::{DueCode, NOTHING_DUE};
 pub use held::{CacheCopy, Held};
-pub use laws::{above, cache_flits, calls, home_flits, meaning, tails, traces};
+pub use laws::{above, cache_flits, calls, home_flits, meaning, outstanding, tails, traces};
 pub use line::{AGENTS, Line, Reason};
+pub use unjudged::Unjudged;

@@ -6,6 +6,8 @@ mod kept;
 #[cfg(test)]
 mod random;
 #[cfg(test)]
+mod returns;
+#[cfg(test)]
 mod rows;
 #[cfg(test)]
 mod said;
