@@ -27,9 +27,9 @@ use Rattle.chi_copies.specs.Observed.{no_words, shown_all}
 use Rattle.chi_copies.specs.Lines.{due_at, issues, may_at, nobody, nothing_due, others_may}
 use Rattle.chi_copies.specs.Begun.{Begun, Behind, apart_from, apart_given, apart_sent, asked_after, asks, agent_in, behind_flit, behind_given, behind_sent, due_in, forgotten, got_begun, is_one, is_plain, is_shown, kept_behind, left_beside, left_over, may_be_left, may_be_moment, may_here, may_then, nothing_begun, begun_with, anyone, others_begun, others_sent, sent_begun, shown_then, some_apart, stand_beside, sure_given, sure_here, sure_sent, sure_then}
 use Rattle.chi_copies.specs.BegunLines.{apart_beside, begun, behind_of, copies_at, dues_of, flags_of, left_over_code, no_copies, sets_of, shown_beside, shown_in, snoops_of, stands, sure_of}
-use Rattle.chi_copies.proofs.Finite.{each_held}
+use Rattle.chi_copies.proofs.Finite.{each_held, turned}
 use Rattle.chi_copies.proofs.Put.{here, there, split, alike, unlike}
-use Rattle.chi_copies.proofs.Sets.{alike_is, stay_is}
+use Rattle.chi_copies.proofs.Sets.{alike_is, each_below, stay_is}
 use Rattle.chi_copies.proofs.Lines.{all_same, high_is, low_is, past_by, same_or, set_is_put}
 
 -- AGENTS
@@ -104,6 +104,17 @@ sure_past asked sure may l m p = sym (ap (λ a. not a && (sure_of sure m || is_o
 
 pub shown_past : (asked : List Bool) (due : List DueCode) (shown : List Bool) (issuer : Option ℕ) (sure : ℕ → Bool) (may : ℕ → Copies) → length asked ≡ 32 → (m : ℕ) → 32 ≤ m → true ≡ shown_in (flags_of asked m) (dues_of due m) (flags_of shown m) issuer sure may m
 shown_past asked due shown issuer sure may l m p = sym (ap (λ a. shown_in a (dues_of due m) (flags_of shown m) issuer sure may m) (past_list asked m true l p))
+
+idle : (a w rest : Bool) → w ≡ false → a ≡ (a || (w && rest))
+idle true w rest e = refl
+idle false w rest e = sym (ap (λ (w : Bool). w && rest) e)
+
+-- where no request needs a moment
+pub none_awaits : (asked : List Bool) (due : List DueCode) (shown : List Bool) (issuer : Option ℕ) (sure : ℕ → Bool) (may : ℕ → Copies) → length asked ≡ 32 → length due ≡ 32 → all_below 32 (λ m. not (awaits_moment (due_at due m))) ≡ true
+    → (n : ℕ) → flags_of asked n ≡ shown_in (flags_of asked n) (dues_of due n) (flags_of shown n) issuer sure may n
+none_awaits asked due shown issuer sure may la ld none = by_agent (flags_of asked) (λ n. shown_in (flags_of asked n) (dues_of due n) (flags_of shown n) issuer sure may n)
+    (λ m low. idle (flags_of asked m) (awaits_moment (dues_of due m)) _ (ap awaits_moment (sym (ap due_is (same_or due m nothing_due left_over_code (low_list due m ld low)))) ∙ turned _ (each_below 32 (λ m. not (awaits_moment (due_at due m))) none m low)))
+    (λ m p. past_list asked m true la p ∙ shown_past asked due shown issuer sure may la m p)
 
 -- OTHERS
 shown_none : (h : Held) → members no_copies h ≡ shown_all (members no_copies) h

@@ -38,6 +38,7 @@ mod TailLeft
 mod TailMoments
 mod TailRuns
 mod BegunTaken
+mod Shut
 mod Counts
 mod Over
 mod PromptSteps

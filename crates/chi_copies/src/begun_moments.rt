@@ -13,7 +13,7 @@ use crate::copies::Copies;
 use crate::dues::DueCode;
 use crate::rules::reads_once;
 use crate::tests::Test;
-use crate::timed::is_issuer;
+use crate::timed::{is_issuer, is_none_awaiting};
 use chi_observer::Stores;
 
 /// The set of none.
@@ -62,13 +62,25 @@ pub(crate) fn sure_then(asked: &[bool; 32], sure: &[bool; 32], may: &[Copies; 32
     settled
 }
 
+/// What a copy may be behind hidden steps: mostly just what it may be, as it was behind hidden steps before.
+fn loosened(stores: Stores, due: DueCode, copies: Copies) -> Copies
+    ensures { (h : HeldOf) → members result h ≡ image (slips stores (due_is due)) (members copies) h }
+{
+    let is_closed = copies.is_closed(stores);
+    if due.0 == 0 && is_closed {
+        copies
+    } else {
+        copies.hidden(stores, due.due())
+    }
+}
+
 /// What a copy may be behind hidden steps, if it is sure.
 fn copies_then(stores: Stores, due: DueCode, sure: bool, copies: Copies) -> Copies
     ensures { (h : HeldOf) → members result h
         ≡ (if sure then image (slips stores (due_is due)) (members copies) else members copies) h }
 {
     if sure {
-        copies.hidden(stores, due.due())
+        loosened(stores, due, copies)
     } else {
         copies
     }
@@ -181,6 +193,9 @@ pub(crate) fn shown_then(
     ensures { (n : ℕ) → flags_of result n ≡ shown_in (flags_of asked.now n) (dues_of due.now n) (flags_of shown.now n) issuer
         (sure_of sure.now) (sets_of may.now) n }
 {
+    if is_none_awaiting(due) {
+        return *asked;
+    }
     let mut settled = [true; 32];
     for n in 0..32 {
         let awaiting = Awaiting {

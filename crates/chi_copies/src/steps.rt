@@ -1,19 +1,41 @@
 //! What the copies of a set lead to.
 
-ghost use Rattle.std.specs.Prelude.{◌≡◌, ◌||◌};
+ghost use Rattle.std.specs.Prelude.{◌≡◌, ◌||◌, not, true};
+ghost use Rattle.chi_observer.specs.declared.flits.Due.TheVariants.{Nothing};
 ghost use Rattle.chi_copies.specs.Copies.{Held as HeldOf, image};
 ghost use Rattle.chi_copies.specs.Rules.{slips};
 ghost use Rattle.chi_copies.specs.Sets.{held_is, members};
 ghost use Rattle.chi_copies.specs.Lines.{leads_by};
-ghost use Rattle.chi_copies.specs.Observed.{shown_all};
+ghost use Rattle.chi_copies.specs.Observed.{any_of, shown_all};
 
 use crate::acts::{dropped, freed, granted, may_be_free, stored_to};
 use crate::copies::{Copies, held_at};
 use crate::held::Held;
 use crate::rules::are_hidden;
 use crate::sends::{Sent, with_left};
-use crate::tests::Test;
+use crate::tests::{CANCELLED, Test};
 use chi_observer::{Due, Grant, Stores};
+
+/// Any of which a hidden step may make another: cancelled, unique or clean.
+const MOVING: Copies = Copies { bits: 0x0fe7_bf9e };
+
+/// Unique, of a request that isn't cancelled, as all below.
+const UNIQUE: Copies = Copies { bits: 0x0007_001c };
+
+/// UD, and stored to.
+const WRITTEN: Copies = Copies { bits: 0x0004_0000 };
+
+/// Clean, of a cache that hasn't stored to it or thrown a newer one away.
+const CLEAN: Copies = Copies { bits: 0x0000_000e };
+
+/// None, of such a cache.
+const DROPPED: Copies = Copies { bits: 0x0000_0001 };
+
+/// Clean, of a cache that has.
+const STORED_CLEAN: Copies = Copies { bits: 0x0003_8000 };
+
+/// None, of such a cache.
+const STORED_DROPPED: Copies = Copies { bits: 0x0000_4000 };
 
 /// A step of one copy.
 /// Source: `docs/COPIES.md`, "What a copy is".
@@ -90,6 +112,30 @@ impl Copies {
         } else {
             self
         }
+    }
+
+    /// Whether it has none of some copies, or one of others too.
+    fn has_beside(self, some: Copies, others: Copies) -> bool
+        ensures { result ≡ (not (any_of (members self) (members some)) || any_of (members self) (members others)) }
+    {
+        let has_some = self.meets(some);
+        let has_others = self.meets(others);
+        !has_some || has_others
+    }
+
+    /// Whether it is plain that hidden steps of an agent of which nothing is due lead to no other copy.
+    pub(crate) fn is_closed(self, stores: Stores) -> bool
+        ensures { result ≡ true → (h : HeldOf) → members self h ≡ image (slips stores Nothing) (members self) h }
+    {
+        if !self.meets(MOVING) {
+            return true;
+        }
+        let is_cancelled = self.meets(CANCELLED);
+        let has_stored = self.has_beside(UNIQUE, WRITTEN);
+        let has_dropped = self.has_beside(CLEAN, DROPPED);
+        let has_stored_dropped = self.has_beside(STORED_CLEAN, STORED_DROPPED);
+        let may_store = are_hidden(stores);
+        !is_cancelled & ((!may_store | has_stored) & (has_dropped & has_stored_dropped))
     }
 
     /// The copies behind hidden steps of an agent of which this is due.

@@ -59,7 +59,7 @@ const UNIQUE_EMPTY: Copies = Copies { bits: 0x0102_0408 };
 const UNIQUE_NEWER: Copies = Copies { bits: 0x0285_0000 };
 
 /// Of a cancelled request.
-const CANCELLED: Copies = Copies { bits: 0x0fe0_3f80 };
+pub(crate) const CANCELLED: Copies = Copies { bits: 0x0fe0_3f80 };
 
 /// None that another cache may have beside a shared clean one.
 const APART_FROM_CLEAN: Copies = Copies { bits: 0x0b97_2e5c };

@@ -16,7 +16,7 @@ use crate::tests::Test;
 use chi_observer::CacheFlit;
 
 /// Whether no request needs a moment.
-fn is_none_awaiting(due: &[DueCode; 32]) -> bool
+pub(crate) fn is_none_awaiting(due: &[DueCode; 32]) -> bool
     ensures { result ≡ all_below 32 (λ m. not (awaits_moment (due_at due.now m))) }
 {
     let mut none = true;
