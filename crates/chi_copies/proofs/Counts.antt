@@ -1,8 +1,7 @@
 -- What is outstanding at a line, counted.
-use Rattle.std.proofs.Common.{rules, arith, ◌≡◌, ℕ, zero, suc, ◌+◌, ◌*◌, ◌<◌, ◌≤◌, List, refl, sym, ap, ◌∙◌, length, add_comm, add-one}
-use Rattle.std.specs.Prelude.{Bool, true, false, ◌&&◌, ◌||◌, not, Option, replicate}
+use Rattle.std.proofs.Common.{rules, arith, ◌≡◌, ℕ, zero, suc, ◌+◌, ◌<◌, List, refl, sym, ap, ◌∙◌, length, add_comm, add-one}
+use Rattle.std.specs.Prelude.{true, false, ◌||◌, Option, replicate}
 use Rattle.chi_observer.specs.declared.kinds.Snoop.{Snoop}
-use Rattle.chi_observer.specs.declared.flits.Due.{Due}
 use Rattle.chi_observer.specs.Rules.{is_resending}
 use Rattle.chi_copies.specs.declared.dues.DueCode.{DueCode}
 use Rattle.chi_copies.specs.Lines.{due_at, snooped_at}

@@ -41,6 +41,7 @@ mod BegunTaken
 mod Shut
 mod Counts
 mod Over
+mod Follow
 mod PromptSteps
 mod Prompt
 mod PromptGiven

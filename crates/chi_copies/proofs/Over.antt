@@ -1,17 +1,16 @@
 -- Nothing is outstanding at a line.
-use Rattle.std.proofs.Common.{rules, arith, ◌≡◌, ◌≢◌, ℕ, zero, suc, ◌+◌, ◌<◌, refl, sym, ap, subst, ◌∙◌}
-use Rattle.std.specs.Prelude.{Bool, true, false, ◌&&◌, ◌||◌, not, Option, Some, None, List, ◌++◌}
+use Rattle.std.proofs.Common.{rules, arith, ◌≡◌, ◌≢◌, ℕ, zero, suc, ◌+◌, ◌<◌, refl, sym, subst, ◌∙◌}
+use Rattle.std.specs.Prelude.{Bool, true, false, ◌&&◌, ◌||◌, not, Option, Some, None, ◌++◌}
 use Rattle.chi_observer.specs.declared.kinds.Snoop.{Snoop}
 use Rattle.chi_observer.specs.declared.flits.Due.{Due}
 use Rattle.chi_observer.specs.declared.flits.Due.TheVariants.{Nothing, Completion, Resending, SureCompletion, WriteData, Acknowledgement}
-use Rattle.chi_observer.specs.declared.flits.Flit.{Flit}
 use Rattle.chi_observer.specs.Rules.{is_resending}
 use Rattle.chi_copies.specs.Worlds.{Public}
 use Rattle.chi_copies.specs.Observed.{Observed}
-use Rattle.chi_copies.specs.Runs.{public_of, seen}
+use Rattle.chi_copies.specs.Runs.{seen}
 use Rattle.chi_copies.specs.Begun.{Begun, begun_with}
 use Rattle.chi_copies.specs.Tails.{LeavesOnly, begun_by, flits_of}
-use Rattle.chi_copies.specs.Unjudged.{is_outstanding, is_snooped, no_one, may_be_asked, one_if, outstanding_of, outstanding_in, sum_below, OverLeavesRetried, OverBegunLeavesOnly}
+use Rattle.chi_copies.specs.Unjudged.{is_outstanding, is_snooped, may_be_asked, one_if, outstanding_of, outstanding_in, sum_below, OverLeavesRetried, OverBegunLeavesOnly}
 use Rattle.chi_copies.proofs.Finite.{no}
 use Rattle.chi_copies.proofs.Put.{split}
 use Rattle.chi_copies.proofs.Runs.{accepted, exact}

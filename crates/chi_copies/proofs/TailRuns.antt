@@ -16,7 +16,7 @@ use Rattle.chi_copies.specs.Observed.{Observed, Sound, moved, next, given, next_
 use Rattle.chi_copies.specs.Moments.{is_issue}
 use Rattle.chi_copies.specs.Worlds.{Public}
 use Rattle.chi_copies.specs.Runs.{Accepted, seen, shown_by, public_of}
-use Rattle.chi_copies.specs.Begun.{Begun, agent_in, act_left_over, is_left_over, takes_begun, behind_sent, behind_given, behind_flit, shown_then, kept_behind, forgotten, forgetting, begun_after, begun_with, left_over, anyone, nothing_begun}
+use Rattle.chi_copies.specs.Begun.{Begun, agent_in, act_left_over, is_left_over, takes_begun, behind_sent, behind_given, behind_flit, shown_then, kept_behind, forgotten, forgetting, begun_after, begun_with, left_over, anyone}
 use Rattle.chi_copies.specs.Tails.{Call, flits_of, begun_by, AreTaken, MayMiss, IsTail, TailsAreTaken, RefusedIsNoTail, LeavesOnly, IsReturn, ReturnsAreTaken, RefusedIsNoReturn}
 use Rattle.chi_copies.specs.Tails.Call.{Taken, Missed, Elsewhere}
 use Rattle.chi_copies.proofs.Finite.{no, left, both, or_left, or_right, by_truth, flip}

@@ -1,13 +1,19 @@
 -- What is outstanding at a line while it isn't judged (docs/COPIES.md, "A line that comes back").
-use Rattle.std.specs.Prelude.{◌≡◌, List, ◌++◌, ℕ, zero, suc, ◌+◌, ◌-◌, Bool, true, false, ◌&&◌, ◌||◌, not, nat_lt, Option, Some, None, if◌then◌else◌}
+use Rattle.std.specs.Prelude.{◌≡◌, List, ◌∷◌, ◌++◌, ℕ, zero, suc, ◌+◌, ◌-◌, ◌==◌, Bool, true, false, ◌&&◌, ◌||◌, not, nat_lt, Option, Some, None, if◌then◌else◌}
 use Rattle.chi_observer.specs.declared.kinds.Snoop.{Snoop}
 use Rattle.chi_observer.specs.declared.flits.Due.{Due}
 use Rattle.chi_observer.specs.declared.flits.Due.TheVariants.{Nothing, Resending}
 use Rattle.chi_observer.specs.Rules.{is_resending}
 use Rattle.chi_observer.specs.declared.flits.Stores.{Stores}
+use Rattle.chi_observer.specs.declared.flits.Act.{Act}
+use Rattle.chi_observer.specs.declared.flits.Act.TheVariants.{SnpResp, CompAck, CopyBackWrData, NonCopyBackWrData}
+use Rattle.chi_observer.specs.declared.flits.Grant.{Grant}
+use Rattle.chi_observer.specs.declared.flits.Grant.TheVariants.{RetryAck, Snp}
+use Rattle.chi_observer.specs.declared.flits.Flit.{Flit}
+use Rattle.chi_observer.specs.declared.flits.Flit.TheVariants.{Up, Down}
 use Rattle.chi_copies.specs.Worlds.{Public}
-use Rattle.chi_copies.specs.Runs.{public_of}
-use Rattle.chi_copies.specs.Begun.{Begun, begun_with}
+use Rattle.chi_copies.specs.Runs.{Legal, public_of}
+use Rattle.chi_copies.specs.Begun.{Begun, asks, begun_with}
 use Rattle.chi_copies.specs.Tails.{Call, IsReturn, LeavesOnly, MayMiss, begun_by, flits_of}
 
 -- a request is outstanding. One that was retried isn't: it may be cancelled unseen, or sent again
@@ -62,3 +68,49 @@ over_begun b p = outstanding_in b.asked b.seen.public ≡ 0 → LeavesOnly (may_
 abbrev pub OverBegunLeavesOnly : Type 0
 OverBegunLeavesOnly = (z : Stores) (asked left : ℕ → Bool) (cs : List Call) → MayMiss (begun_with z asked left) cs → (r : IsReturn z asked left (flits_of cs))
     → over_begun (begun_by (begun_with z asked left) cs) (public_of z (flits_of cs ++ r.before))
+
+-- THE CALLS, of flits that have rules: what is said of each
+-- it is a request, or one that is sent again
+abbrev pub is_request_of : Flit → ℕ → Bool
+is_request_of (Up f) n = asks f.act && n == f.agent.0
+is_request_of (Down g) n = false
+
+abbrev pub is_snoop : Grant → Bool
+is_snoop (Snp snoop) = true
+is_snoop other = false
+
+abbrev pub opens : Flit → Bool
+opens (Up f) = asks f.act
+opens (Down g) = is_snoop g.grant
+
+-- it is an answer, or the last flit of a request; p: behind it
+abbrev pub act_ends : Act → Bool
+act_ends (SnpResp answer) = true
+act_ends CompAck = true
+act_ends (CopyBackWrData form) = true
+act_ends NonCopyBackWrData = true
+act_ends other = false
+
+abbrev pub ends : Public → Flit → Bool
+ends p (Up f) = act_ends f.act
+ends p (Down g) = not (is_snoop g.grant) && not (is_outstanding (p.due g.agent.0))
+
+-- it retries one
+abbrev pub is_retry : Grant → Bool
+is_retry RetryAck = true
+is_retry other = false
+
+abbrev pub retries : Flit → ℕ → Bool
+retries (Up f) n = false
+retries (Down g) n = is_retry g.grant && n == g.agent.0
+
+abbrev pub count_after : Public → Flit → ℕ → ℕ
+count_after p e count = if opens e then count + 1 else (if ends p e then count - 1 else count)
+
+-- one more or fewer is counted, or as many, and agents are asked or no longer, as what is outstanding is
+pub record IsCounted (p q : Public) (e : Flit) : Type 0 where
+  pub count : outstanding_in no_one q ≡ count_after q e (outstanding_in no_one p)
+  pub asked : (n : ℕ) → may_be_asked no_one q n ≡ ((may_be_asked no_one p n && not (is_request_of e n)) || retries e n)
+
+abbrev pub FlitsAreCounted : Type 0
+FlitsAreCounted = (z : Stores) (e : Flit) (es : List Flit) → Legal z (e ∷ es) → IsCounted (public_of z es) (public_of z (e ∷ es)) e

@@ -6,7 +6,7 @@ ghost use Rattle.chi_copies.specs.Runs.{LegalIsAccepted, AcceptedIsLegal, Accept
 ghost use Rattle.chi_copies.specs.Values.{ReadOnceShowsValue};
 ghost use Rattle.chi_copies.specs.Above.{AboveTakes, StaysAbove, AboveMeansMore, SoundIsAbove, NothingIsAboveAll};
 ghost use Rattle.chi_copies.specs.Tails.{TailsAreTaken, RefusedIsNoTail, ReturnsAreTaken, RefusedIsNoReturn};
-ghost use Rattle.chi_copies.specs.Unjudged.{OverBegunLeavesOnly, OverLeavesRetried};
+ghost use Rattle.chi_copies.specs.Unjudged.{FlitsAreCounted, OverBegunLeavesOnly, OverLeavesRetried};
 ghost use Rattle.chi_copies.specs.Prompt.{BeginsPrompt, PromptFlitsAreTaken, StaysPrompt, StaysPromptGiven, PromptGivenIsTaken, PromptLogsAreTaken};
 
 /// The law that each world that the sets stand for is coherent, that hidden steps lead to just those that they stand for, and that
@@ -86,11 +86,13 @@ pub fn tails()
 {}
 
 /// The law of what a judged line hands over where it isn't judged from some flit on: once nothing is outstanding, no more is open than
-/// requests that were retried, or may be from before, and snoops that may be.
+/// requests that were retried, or may be from before, and snoops that may be; and behind each flit of a legal trace one more is
+/// outstanding, one fewer or as many, as a line that isn't judged is told of the flit.
 /// Source: `docs/COPIES.md`, "A line that comes back".
 pub fn outstanding()
     ensures line { OverLeavesRetried }
     ensures begun { OverBegunLeavesOnly }
+    ensures counted { FlitsAreCounted }
 {}
 
 /// The law of a log that is taken at the home while nothing is on its way, beside the same log as sent: the two observers begin beside

@@ -1,5 +1,5 @@
 -- One more agent's are counted.
-use Rattle.std.proofs.Common.{rules, arith, ◌≡◌, ◌≤◌, ◌+◌, ◌*◌, ap, ◌∙◌}
+use Rattle.std.proofs.Common.{arith, ◌≡◌, ◌≤◌, ◌+◌, ◌*◌, ap, ◌∙◌}
 use Rattle.chi_copies.specs.BegunLines.{dues_of, flags_of}
 use Rattle.chi_copies.specs.Dues.{due_is}
 use Rattle.chi_copies.specs.Lines.{snooped_at}

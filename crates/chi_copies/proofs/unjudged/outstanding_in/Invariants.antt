@@ -1,5 +1,5 @@
 -- So far each agent's are counted.
-use Rattle.std.proofs.Common.{◌≡◌, ◌≤◌, ◌*◌, ℕ}
+use Rattle.std.proofs.Common.{◌≡◌, ◌≤◌, ◌*◌}
 use Rattle.chi_copies.specs.BegunLines.{dues_of, flags_of}
 use Rattle.chi_copies.specs.Lines.{snooped_at}
 use Rattle.chi_copies.specs.Unjudged.{outstanding_of, sum_below}

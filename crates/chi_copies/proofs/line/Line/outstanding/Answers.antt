@@ -1,6 +1,5 @@
 -- Nothing is from before.
-use Rattle.std.proofs.Common.{rules, arith, ◌≡◌, ℕ, length, ◌∙◌}
-use Rattle.std.specs.Prelude.{replicate, false}
+use Rattle.std.proofs.Common.{rules, arith, ◌≡◌, length, ◌∙◌}
 use Rattle.chi_copies.proofs.Counts.{none_before, asked_before, none_at}
 use Rattle.chi_copies.proofs.line.Line.outstanding.Goals as goal
 
