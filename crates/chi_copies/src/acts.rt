@@ -64,7 +64,7 @@ pub(crate) fn may_be_free(due: Due) -> bool
 }
 
 /// Whether a request was retried.
-fn is_resending(due: Due) -> bool
+pub(crate) fn is_resending(due: Due) -> bool
     ensures { result ≡ is_resending due }
 {
     matches!(due, Due::Resending(_))

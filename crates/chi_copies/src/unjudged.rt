@@ -9,6 +9,7 @@ ghost use Rattle.chi_copies.specs.Dues.{due_is};
 ghost use Rattle.chi_copies.specs.Lines.{observed, snooped_at};
 ghost use Rattle.chi_copies.specs.Unjudged.{is_outstanding, may_be_asked, no_one, one_less, one_more, outstanding_in, outstanding_of, sum_below};
 
+use crate::acts::is_resending;
 use crate::begun::Begun;
 use crate::begun_moments::{code_at, flag_at};
 use crate::dues::DueCode;
@@ -34,13 +35,6 @@ fn is_outstanding(due: Due) -> bool
     ensures { result ≡ is_outstanding due }
 {
     !matches!(due, Due::Nothing | Due::Resending(_))
-}
-
-/// Whether a request was retried, of which this is due.
-fn is_resending(due: Due) -> bool
-    ensures { result ≡ is_resending due }
-{
-    matches!(due, Due::Resending(_))
 }
 
 /// How many requests and snoops of an agent are outstanding.
