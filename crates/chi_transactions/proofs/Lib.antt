@@ -1,0 +1,6 @@
+mod CreditLaws
+mod IdLaws
+mod Numbers
+mod Slots
+mod StandLaws
+mod WaitLaws

@@ -1,0 +1,12 @@
+pub mod Credits
+pub mod Flits
+pub mod History
+pub mod Ids
+pub mod Laws
+pub mod Maps
+pub mod Outstanding
+pub mod Parts
+pub mod Rows
+pub mod Rule
+pub mod State
+pub mod Steps

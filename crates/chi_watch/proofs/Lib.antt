@@ -1,0 +1,9 @@
+mod HeldLemmas
+mod NoRefusal
+mod JudgeLemmas
+mod DrainLemmas
+mod TableLemmas
+mod LogLemmas
+mod RefusalRows
+mod LegalLemmas
+mod TailLemmas
