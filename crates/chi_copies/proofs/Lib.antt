@@ -3,9 +3,13 @@ mod Put
 mod Eight
 mod Sets
 mod Bits
+mod Images
+mod Alone
+mod Shown
 mod Counted
 mod DueBytes
 mod Lines
+mod Plain
 mod BegunLines
 mod Rows
 mod Means
@@ -38,7 +42,6 @@ mod TailLeft
 mod TailMoments
 mod TailRuns
 mod BegunTaken
-mod Shut
 mod Counts
 mod Over
 mod Follow

@@ -201,7 +201,7 @@ made z e q d t v w = record { public = record { stores = z; due = e; snooped = q
 pub made_same : (z : Stores) (e e' : ℕ → Due) (q q' : ℕ → Option Snoop) (d d' : Bool) (t t' : ℕ → Copies) (v v' : Option (List ℕ)) (w w' : ℕ → Option ℕ) → e ≡ e' → q ≡ q' → d ≡ d' → t ≡ t' → v ≡ v' → w ≡ w' → made z e q d t v w ≡ made z e' q' d' t' v' w'
 made_same z e e' q q' d d' t t' v v' w w' he hq hd ht hv hw = λ i. made z (he i) (hq i) (hd i) (ht i) (hv i) (hw i)
 
-abbrev line_of : Stores → List DueCode → List (Option Snoop) → Bool → List CopiesCode → Option (List ℕ) → List (Option ℕ) → Line
+abbrev pub line_of : Stores → List DueCode → List (Option Snoop) → Bool → List CopiesCode → Option (List ℕ) → List (Option ℕ) → Line
 line_of z e q d t v w = record { stores = z; due = e; snooped = q; duty = d; may = t; home = v; news = w; shown = [] }
 
 module _ (z : Stores) (due : List DueCode) (snooped : List (Option Snoop)) (duty : Bool) (may : List CopiesCode) (home : Option (List ℕ)) (news : List (Option ℕ)) where

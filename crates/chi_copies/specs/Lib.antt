@@ -4,6 +4,7 @@ pub mod Worlds
 pub mod Observed
 pub mod Moments
 pub mod Sets
+pub mod Images
 pub mod Dues
 pub mod Lines
 pub mod Told

@@ -6,6 +6,7 @@ ghost use Rattle.chi_observer.specs.declared.flits.Act.TheVariants.{CopyBackWrDa
 ghost use Rattle.chi_observer.specs.declared.flits.Grant.TheVariants.{CompUC};
 ghost use Rattle.chi_observer.specs.Rules.{answered, cleaned, copy_filled, copy_granted, gives_up, is_acknowledging, is_answered_from, is_copy_back, is_issued_from, is_resending, is_whole_write, is_written_from, issued, upgraded};
 ghost use Rattle.chi_copies.specs.Rules.{acts, dropped, fills, freed, granted, is_due_data, is_free, is_resent, lets, may_be_free, may_hide, may_store, renews, row, shows, stored_to};
+ghost use Rattle.chi_copies.specs.Images.{stays};
 ghost use Rattle.chi_copies.specs.Sets.{copy_is, held_is, some_held};
 
 use crate::held::{CacheCopy, Held};
@@ -71,7 +72,7 @@ pub(crate) fn is_resending(due: Due) -> bool
 }
 
 /// Whether a request of the kind was retried.
-fn is_resent(kind: Kind, due: Due) -> bool
+pub(crate) fn is_resent(kind: Kind, due: Due) -> bool
     ensures { result ≡ is_resent kind due }
 {
     match due {
@@ -85,7 +86,7 @@ fn is_resent(kind: Kind, due: Due) -> bool
 }
 
 /// Whether the write data of a copy are due.
-fn is_copy_back_due(due: Due) -> bool
+pub(crate) fn is_copy_back_due(due: Due) -> bool
     ensures { result ≡ is_due_data is_copy_back due }
 {
     match due {
@@ -99,7 +100,7 @@ fn is_copy_back_due(due: Due) -> bool
 }
 
 /// Whether the data of a WriteUniqueFull are due.
-fn is_whole_write_due(due: Due) -> bool
+pub(crate) fn is_whole_write_due(due: Due) -> bool
     ensures { result ≡ is_due_data is_whole_write due }
 {
     match due {
@@ -113,7 +114,7 @@ fn is_whole_write_due(due: Due) -> bool
 }
 
 /// Whether write data are due that leave no copy.
-fn gives_up_due(due: Due) -> bool
+pub(crate) fn gives_up_due(due: Due) -> bool
     ensures { result ≡ is_due_data gives_up due }
 {
     match due {
@@ -451,6 +452,19 @@ pub(crate) fn granted(grant: Grant, due: Due, held: Held) -> Held
         copy: copy_granted(grant, due, held.copy),
         cancelled: held.cancelled,
         stored: makes(grant, due) || (held.stored && !settles(grant, due)),
+    }
+}
+
+/// Whether a flit of the home leaves each copy of its agent as it is.
+pub(crate) fn stays(grant: Grant, due: Due) -> bool
+    ensures { result ≡ stays grant due }
+{
+    match grant {
+        Grant::CompData(form) => !form_has_data(form),
+        Grant::CompUC => !(makes(grant, due) || is_upgraded(due)),
+        Grant::CompDBIDResp => !is_written_whole(due),
+        Grant::CompI => !settles(grant, due),
+        Grant::RetryAck | Grant::Snp(_) | Grant::CompSC => true,
     }
 }
 

@@ -62,25 +62,13 @@ pub(crate) fn sure_then(asked: &[bool; 32], sure: &[bool; 32], may: &[Copies; 32
     settled
 }
 
-/// What a copy may be behind hidden steps: mostly just what it may be, as it was behind hidden steps before.
-fn loosened(stores: Stores, due: DueCode, copies: Copies) -> Copies
-    ensures { (h : HeldOf) → members result h ≡ image (slips stores (due_is due)) (members copies) h }
-{
-    let is_closed = copies.is_closed(stores);
-    if due.0 == 0 && is_closed {
-        copies
-    } else {
-        copies.hidden(stores, due.due())
-    }
-}
-
 /// What a copy may be behind hidden steps, if it is sure.
 fn copies_then(stores: Stores, due: DueCode, sure: bool, copies: Copies) -> Copies
     ensures { (h : HeldOf) → members result h
         ≡ (if sure then image (slips stores (due_is due)) (members copies) else members copies) h }
 {
     if sure {
-        loosened(stores, due, copies)
+        copies.hidden(stores, due.due())
     } else {
         copies
     }

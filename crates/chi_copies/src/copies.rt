@@ -3,6 +3,7 @@
 ghost use Rattle.std.specs.Prelude.{◌≡◌, ◌<◌, ◌&&◌, ◌||◌, false, not, true};
 ghost use Rattle.chi_copies.specs.Copies.{Held as HeldOf, same_held};
 ghost use Rattle.chi_copies.specs.Observed.{any_of};
+ghost use Rattle.chi_copies.specs.Images.{led, led_by};
 ghost use Rattle.chi_copies.specs.Sets.{copy_at, copy_is, held_at, held_is, members, place_of, place_of_copy};
 
 use crate::held::{CacheCopy, Held};
@@ -18,6 +19,14 @@ pub struct Copies {
 /// The set of no copy alone: of an agent of whom nothing was told.
 /// Source: `docs/COPIES.md`, "What is kept".
 pub const NOBODY: Copies = Copies { bits: 1 };
+
+/// What copies of a set lead to: where it has one of `from`, to each of `to`.
+/// Source: `docs/COPIES.md`, "How a set is kept".
+#[derive(Clone, Copy, Debug, PartialEq, Eq)]
+pub(crate) struct Row {
+    pub(crate) from: Copies,
+    pub(crate) to: Copies,
+}
 
 /// The bits of all copies.
 pub(crate) const EVERY: u32 = 0x0fff_ffff;
@@ -140,6 +149,30 @@ impl Copies {
         ensures { result ≡ any_of (members self) (members other) }
     {
         self.and(other).known().bits != 0
+    }
+
+    /// What a row leads to.
+    #[inline(always)]
+    fn led_by(self, row: Row) -> Copies
+        ensures { (h : HeldOf) → members result h ≡ led_by row (members self) h }
+    {
+        if self.meets(row.from) {
+            row.to
+        } else {
+            Copies::empty()
+        }
+    }
+
+    /// What the rows lead to together.
+    #[inline(always)]
+    pub(crate) fn led(self, rows: &[Row]) -> Copies
+        ensures { (h : HeldOf) → members result h ≡ led rows.now (members self) h }
+    {
+        let mut left = Copies::empty();
+        for n in 0..rows.len() {
+            left = left.or(self.led_by(rows[n]));
+        }
+        left
     }
 
     /// The bit of the first copy, of a set that has one.

@@ -1,7 +1,7 @@
 //! What is due of an agent's request, as one byte.
 
 ghost use Rattle.std.specs.Prelude.{◌≡◌, ◌<◌};
-ghost use Rattle.chi_observer.specs.Rules.{awaits_moment as awaits, is_busy as busy};
+ghost use Rattle.chi_observer.specs.Rules.{awaits_moment as awaits, is_busy as busy, overwrites, reads_once};
 ghost use Rattle.chi_copies.specs.Dues.{due_is, kind_at};
 
 use chi_observer::{Due, Kind};
@@ -100,6 +100,23 @@ impl DueCode {
         ensures { result ≡ awaits (due_is self) }
     {
         15 < self.0 && (self.0 < 64 && (self.0 % 16 < 8 && self.0 % 4 == 3))
+    }
+
+    /// Whether a ReadOnce is open.
+    pub(crate) fn reads_once(self) -> bool
+        ensures { result ≡ reads_once (due_is self) }
+    {
+        15 < self.0 && (self.0 < 64 && self.0 % 16 == 3)
+    }
+
+    /// Whether a request is open for which copies may be thrown away.
+    pub(crate) fn overwrites(self) -> bool
+        ensures { result ≡ overwrites (due_is self) }
+    {
+        15 < self.0
+            && (self.0 < 64
+                && (!(self.0 / 16 == 2)
+                    && (self.0 % 16 == 6 || (self.0 % 16 == 9 || 13 < self.0 % 16))))
     }
 
     /// Whether a CompAck or write data are due.

@@ -1,7 +1,7 @@
 //! A line.
 
 ghost use Rattle.std.specs.Prelude.{◌≡◌, ◌<◌, ◌&&◌, ◌||◌, ◌==◌, ℕ, IfErr, IfSome, OnErr, OnOk, Option, Some, false, is_ok, is_some, if◌then◌else◌, not, true};
-ghost use Rattle.chi_observer.specs.Rules.{is_busy, needs_duty, overwrites, passes_duty, tells_words};
+ghost use Rattle.chi_observer.specs.Rules.{due_after, due_granted, is_busy, needs_duty, overwrites, passes_duty, tells_words, word_at};
 ghost use Rattle.chi_copies.specs.Rules.{shows};
 ghost use Rattle.chi_copies.specs.declared.tests.Test.TheVariants.{FillsStored};
 ghost use Rattle.chi_copies.specs.Copies.{Held as HeldOf};
@@ -14,21 +14,22 @@ ghost use Rattle.chi_copies.specs.Sets.{members};
 ghost use Rattle.chi_copies.specs.declared.line.Reason.{Reason};
 ghost use Rattle.chi_copies.specs.declared.line.Reason.TheVariants.{NoMoment};
 ghost use Rattle.chi_copies.specs.Dues.{due_is};
+ghost use Rattle.chi_copies.specs.Images.{fits, keeps_words, with_news};
 ghost use Rattle.chi_copies.specs.Refusals.{copy_refusal, due_refusal, home_refusal, refusal, refused_if};
 ghost use Rattle.chi_copies.specs.Lines.{due_at, is_taken, is_taken_home, keeps_order, known_at, known_stored, may_at, observed, others_may, passes, sent_of, shown_at, snooped_at};
 
-use crate::acts::renews;
+use crate::acts::{renews, stays};
 use crate::copies::{Copies, NOBODY};
 use crate::dues::{DueCode, NOTHING_DUE};
 use crate::rules::{
-    allows, are_hidden, due_after, due_granted, is_due, is_request, lets_go, makes, needs_alone,
-    needs_duty, needs_moment, needs_overwriter, needs_quiet, overwrites, passes_duty,
-    snooped_after, snooped_granted, tells_words,
+    allows, are_hidden, due_granted, has_data, is_due, is_request, lets_go, makes, needs_alone,
+    needs_duty, needs_moment, needs_overwriter, needs_quiet, passes_duty, snooped_after,
+    snooped_granted, tells_words,
 };
-use crate::sends::{Sent, fits_by, fits_each, is_placed};
+use crate::sends::{Sent, fits_by, fits_each, fitting, is_placed, is_plain, plain};
 use crate::steps::Step;
 use crate::tests::{Test, apart_by};
-use crate::timed::{issuer_of, shown_behind};
+use crate::timed::{is_none_stored, issuer_of, shown_behind};
 use chi_flit::Data;
 use chi_observer::{Act, CacheFlit, Due, Grant, HomeFlit, Snoop, Stores, Word};
 
@@ -163,11 +164,106 @@ pub(crate) fn home_then(tells: bool, words: Data, home: Option<Data>) -> Option<
     if tells { Some(words) } else { home }
 }
 
-/// The words that are known behind a flit of the home; `makes` says that it lets its agent write the whole line.
-fn news_granted(makes: bool, news: [Option<u64>; 8]) -> [Option<u64>; 8]
-    ensures { known_at result ≡ (if makes then no_words else known_at news) }
+/// What is due behind a flit of a cache, as a byte.
+fn code_after(act: Act, code: DueCode) -> DueCode
+    ensures { due_is result ≡ due_after act (due_is code) }
 {
-    if makes { none_known() } else { news }
+    match act {
+        Act::Request(kind) => DueCode::encode(Due::Completion(kind)),
+        Act::Resend(kind) => DueCode::encode(Due::SureCompletion(kind)),
+        Act::SnpResp(_) => code,
+        Act::CompAck => NOTHING_DUE,
+        Act::CopyBackWrData(_) => NOTHING_DUE,
+        Act::NonCopyBackWrData => NOTHING_DUE,
+        Act::Load(_) => code,
+        Act::Store(_) => code,
+    }
+}
+
+/// What is due behind a flit of the home, as a byte.
+fn code_granted(grant: Grant, code: DueCode) -> DueCode
+    ensures { due_is result ≡ due_granted grant (due_is code) }
+{
+    match grant {
+        Grant::Snp(_) => code,
+        Grant::RetryAck => DueCode::encode(due_granted(grant, code.due())),
+        Grant::CompData(_) => DueCode::encode(due_granted(grant, code.due())),
+        Grant::CompUC => DueCode::encode(due_granted(grant, code.due())),
+        Grant::CompSC => NOTHING_DUE,
+        Grant::CompI => NOTHING_DUE,
+        Grant::CompDBIDResp => DueCode::encode(due_granted(grant, code.due())),
+    }
+}
+
+/// Whether two lines have the same words.
+fn same_words(known: &Data, words: &Data) -> bool
+    ensures { result ≡ all_below 8 (λ p. word_at known.now p == word_at words.now p) }
+{
+    let mut same = true;
+    for n in 0..8 {
+        same &= known[n] == words[n];
+    }
+    same
+}
+
+/// Whether the words may be the home's.
+fn home_fits(home: &Option<Data>, words: &Data) -> bool
+    ensures { result ≡ fits_home home.now words.now }
+{
+    match home {
+        None => true,
+        Some(known) => same_words(known, words),
+    }
+}
+
+/// The home has these words, if `tells` says that they are its own.
+fn tell(home: &mut Option<Data>, tells: bool, words: &Data)
+    ensures { home.new ≡ (if tells then Some words.now else home.old) }
+{
+    if tells {
+        *home = Some(*words);
+    }
+}
+
+/// The others' copies behind a flit; `tells` says that the home has their words.
+#[inline(always)]
+fn show_others(may: &mut [Copies; 32], tells: bool)
+    ensures { (n : ℕ) (h : HeldOf) → members (may_at may.new n) h ≡ others_may tells may.old n h }
+{
+    if !tells {
+        return;
+    }
+    if is_none_stored(may) {
+        return;
+    }
+    *may = each_shown(may);
+}
+
+/// Whether the words that are known stay behind a flit of a cache; `forgets` says that there may have been a store which
+/// nobody told of.
+fn keeps_words(act: Act, forgets: bool) -> bool
+    ensures { result ≡ keeps_words act forgets }
+{
+    let tells = tells_words(act);
+    match act {
+        Act::Load(_) => false,
+        Act::Store(_) => false,
+        Act::Request(_)
+        | Act::Resend(_)
+        | Act::SnpResp(_)
+        | Act::CompAck
+        | Act::CopyBackWrData(_)
+        | Act::NonCopyBackWrData => !(forgets || tells),
+    }
+}
+
+/// No words are known any more, if they are to be forgotten.
+fn forget(news: &mut [Option<u64>; 8], forgets: bool)
+    ensures { known_at news.new ≡ (if forgets then no_words else known_at news.old) }
+{
+    if forgets {
+        *news = none_known();
+    }
 }
 
 /// Whether the home has the duty to write dirty data behind a flit of its own.
@@ -203,7 +299,8 @@ pub(crate) fn is_none_overwriting(due: &[DueCode; 32], agent: u8) -> bool
 fn is_sparing(n: usize, agent: u8, due: DueCode) -> bool
     ensures { result ≡ (n == agent || not (overwrites (due_is due))) }
 {
-    n == usize::from(agent) || !overwrites(due.due())
+    let overwrites = due.overwrites();
+    n == usize::from(agent) || !overwrites
 }
 
 /// Whether the copies of an agent go with each that another may have; `alone` says that there is to be none.
@@ -217,6 +314,18 @@ fn stands_beside(may: &[Copies; 32], agent: u8, got: Copies, alone: bool) -> boo
         beside &= goes_beside(n, agent, apart, other);
     }
     beside
+}
+
+/// Whether the copies of an agent go with each that another may have behind a flit; `tells` says that the home has their words.
+fn stands_with(tells: bool, may: &[Copies; 32], agent: u8, got: Copies, alone: bool) -> bool
+    ensures { result ≡ all_below 32 (λ m. m == agent || is_beside (members got) alone (others_may tells may.now m)) }
+{
+    if tells {
+        let shown = each_shown(may);
+        stands_beside(&shown, agent, got, alone)
+    } else {
+        stands_beside(may, agent, got, alone)
+    }
 }
 
 /// Whether none of these copies is one that agent `n` may have; the agent's own don't count.
@@ -282,11 +391,11 @@ impl Line {
         if flit.agent.0 >= 32 {
             return Err(Reason::NoAgent);
         }
-        let (got, may) = (self.got(flit), self.given_may(flit));
-        match self.is_timely(flit, got, &may) {
+        let got = self.got(flit);
+        match self.is_timely(flit, got) {
             Err(reason) => Err(reason),
             Ok(()) => {
-                self.give(flit, got, may);
+                self.give(flit, got);
                 self.shown = shown_behind(&self.due, &self.may, &self.shown, None);
                 self.loosen(flit.agent.0);
                 Ok(())
@@ -332,14 +441,44 @@ impl Line {
         if !is_placed(flit.act) {
             return None;
         }
-        let may = self.may_of(flit.agent.0);
-        let sent = self.sent(flit);
-        let left = Step::Sending(sent).image(may);
+        let left = self.left_of(flit);
         if Test::Each.any(left) {
             Some(left)
         } else {
             None
         }
+    }
+
+    /// The copies that a flit of a cache leaves of those that may have sent it.
+    fn left_of(&self, flit: CacheFlit) -> Copies
+        requires low { flit.agent.0 < 32 }
+        requires placed { is_placed flit.act ≡ true }
+        ensures { (h : HeldOf) → members result h ≡ sent_by (observed self.now) flit h }
+    {
+        let snooped = self.snooped_of(flit.agent.0);
+        let goes = lets_go(snooped);
+        let due = self.due_of(flit.agent.0);
+        let may = self.may_of(flit.agent.0);
+        let fits = self.fitting(&flit, due, may);
+        if is_plain(flit.act, due, fits) {
+            plain(flit.act, goes, due, fits)
+        } else {
+            let sent = self.sent(flit);
+            Step::Sending(sent).image(may)
+        }
+    }
+
+    /// The copies of a set whose words the data of a flit, if it has any, may be.
+    fn fitting(&self, flit: &CacheFlit, due: Due, may: Copies) -> Copies
+        requires { due ≡ due_at self.now.due flit.now.agent.0 }
+        ensures { (h : HeldOf) → members result h ≡ (members may h && fits (observed self.now) flit.now h) }
+    {
+        if !has_data(flit.act) {
+            return may;
+        }
+        let home = home_fits(&self.home, &flit.shown);
+        let news = fits_each(&self.news, &flit.shown);
+        may.and(fitting(self.stores, due, home, news))
     }
 
     /// The flit beside what is kept of the line.
@@ -374,11 +513,11 @@ impl Line {
     {
         let at = usize::from(flit.agent.0);
         let tells = tells_words(flit.act);
-        self.news = self.news_after(flit, left);
-        self.home = home_then(tells, flit.shown, self.home);
-        self.may = others_may(tells, &self.may);
+        self.learn(flit, left);
+        tell(&mut self.home, tells, &flit.shown);
+        show_others(&mut self.may, tells);
         self.may[at] = left;
-        self.due[at] = DueCode::encode(due_after(flit.act, self.due[at].due()));
+        self.due[at] = code_after(flit.act, self.due[at]);
         self.snooped[at] = snooped_after(flit.act, self.snooped[at]);
         self.duty = duty_after(self.duty, flit.act);
     }
@@ -392,6 +531,21 @@ impl Line {
         let due = self.due_of(agent);
         let may = self.may_of(agent);
         self.may[usize::from(agent)] = may.hidden(self.stores, due);
+    }
+
+    /// The words that are known behind a flit of a cache that leaves these copies are kept.
+    fn learn(&mut self, flit: CacheFlit, left: Copies)
+        requires low { flit.agent.0 < 32 }
+        requires placed { is_placed flit.act ≡ true }
+        requires left { (h : HeldOf) → members left h ≡ sent_by (observed self.old) flit h }
+        ensures news { known_at self.new.news ≡ news_after (observed self.old) flit }
+        ensures rest { self.new ≡ with_news self.old self.new.news }
+    {
+        let forgets = self.forgets(flit, left);
+        if keeps_words(flit.act, forgets) {
+            return;
+        }
+        self.news = self.news_after(flit, left);
     }
 
     /// The words that are known behind a flit of a cache that leaves these copies.
@@ -490,45 +644,39 @@ impl Line {
     }
 
     /// Whether there was its moment, the flit is due, and leaves all in order.
-    fn is_timely(&self, flit: HomeFlit, got: Copies, may: &[Copies; 32]) -> Result<(), Reason>
+    fn is_timely(&self, flit: HomeFlit, got: Copies) -> Result<(), Reason>
         requires low { flit.agent.0 < 32 }
         requires got { (h : HeldOf) → members got h ≡ got_by (observed self.now) flit h }
-        requires may { (n : ℕ) (h : HeldOf) → members (may_at may.now n) h
-            ≡ given_of flit (observed self.now).public (members (may_at self.now.may n)) h }
         ensures takes { is_ok result ≡ (has_moment (observed self.now) (shown_at self.now.shown) flit
             && takes_home (observed self.now) flit) }
         ensures why { IfErr result (λ reason. refused_if (not (has_moment (observed self.now) (shown_at self.now.shown) flit)) NoMoment
             (due_refusal (observed self.now) flit (copy_refusal (observed self.now) flit)) ≡ Some reason) }
     {
         if self.has_moment(flit) {
-            self.is_safe(flit, got, may)
+            self.is_safe(flit, got)
         } else {
             Err(Reason::NoMoment)
         }
     }
 
     /// Whether the flit is due, and leaves all in order.
-    fn is_safe(&self, flit: HomeFlit, got: Copies, may: &[Copies; 32]) -> Result<(), Reason>
+    fn is_safe(&self, flit: HomeFlit, got: Copies) -> Result<(), Reason>
         requires low { flit.agent.0 < 32 }
         requires got { (h : HeldOf) → members got h ≡ got_by (observed self.now) flit h }
-        requires may { (n : ℕ) (h : HeldOf) → members (may_at may.now n) h
-            ≡ given_of flit (observed self.now).public (members (may_at self.now.may n)) h }
         ensures takes { is_ok result ≡ takes_home (observed self.now) flit }
         ensures why { IfErr result (λ reason. due_refusal (observed self.now) flit
             (copy_refusal (observed self.now) flit) ≡ Some reason) }
     {
         match self.may_give(flit) {
             Err(reason) => Err(reason),
-            Ok(()) => self.keeps_order(flit, got, may),
+            Ok(()) => self.keeps_order(flit, got),
         }
     }
 
     /// Whether the flit leaves all in order, where the home may send it.
-    fn keeps_order(&self, flit: HomeFlit, got: Copies, may: &[Copies; 32]) -> Result<(), Reason>
+    fn keeps_order(&self, flit: HomeFlit, got: Copies) -> Result<(), Reason>
         requires low { flit.agent.0 < 32 }
         requires got { (h : HeldOf) → members got h ≡ got_by (observed self.now) flit h }
-        requires may { (n : ℕ) (h : HeldOf) → members (may_at may.now n) h
-            ≡ given_of flit (observed self.now).public (members (may_at self.now.may n)) h }
         ensures keeps { is_ok result ≡ keeps_order (observed self.now) flit }
         ensures why { IfErr result (λ reason. copy_refusal (observed self.now) flit ≡ Some reason) }
     {
@@ -538,7 +686,7 @@ impl Line {
         if self.fills_stored(flit) {
             return Err(Reason::Lost);
         }
-        if !self.goes(flit, got, may) {
+        if !self.goes(flit, got) {
             return Err(Reason::OtherCopy);
         }
         Ok(())
@@ -567,8 +715,7 @@ impl Line {
     fn fits_home(&self, flit: HomeFlit) -> bool
         ensures { result ≡ fits_home self.now.home flit.shown }
     {
-        let words = home_words(&self.home);
-        fits_each(&words, &flit.shown)
+        home_fits(&self.home, &flit.shown)
     }
 
     /// Whether the flit fills a copy whose agent may have thrown the value away.
@@ -587,39 +734,29 @@ impl Line {
     {
         let due = self.due_of(flit.agent.0);
         let may = self.may_of(flit.agent.0);
-        Step::Granted(flit.grant, due).image(may)
-    }
-
-    /// What the others' copies may be then.
-    fn given_may(&self, flit: HomeFlit) -> [Copies; 32]
-        requires { flit.agent.0 < 32 }
-        ensures { (n : ℕ) (h : HeldOf) → members (may_at result n) h
-            ≡ given_of flit (observed self.now).public (members (may_at self.now.may n)) h }
-    {
-        let due = self.due_of(flit.agent.0);
-        let renews = renews(flit.grant, due);
-        others_may(renews, &self.may)
+        if stays(flit.grant, due) {
+            may
+        } else {
+            Step::Granted(flit.grant, due).image(may)
+        }
     }
 
     /// Whether each copy that another agent may have goes with those of the flit's then.
-    fn goes(&self, flit: HomeFlit, got: Copies, may: &[Copies; 32]) -> bool
+    fn goes(&self, flit: HomeFlit, got: Copies) -> bool
         requires low { flit.agent.0 < 32 }
         requires got { (h : HeldOf) → members got h ≡ got_by (observed self.now) flit h }
-        requires may { (n : ℕ) (h : HeldOf) → members (may_at may.now n) h
-            ≡ given_of flit (observed self.now).public (members (may_at self.now.may n)) h }
         ensures { result ≡ goes (observed self.now) flit }
     {
         let due = self.due_of(flit.agent.0);
         let alone = needs_alone(flit.grant, due);
-        stands_beside(may, flit.agent.0, got, alone)
+        let renews = renews(flit.grant, due);
+        stands_with(renews, &self.may, flit.agent.0, got, alone)
     }
 
     /// What is kept behind a flit of the home, before hidden steps.
-    fn give(&mut self, flit: HomeFlit, got: Copies, may: [Copies; 32])
+    fn give(&mut self, flit: HomeFlit, got: Copies)
         requires low { flit.agent.0 < 32 }
         requires got { (h : HeldOf) → members got h ≡ got_by (observed self.old) flit h }
-        requires may { (n : ℕ) (h : HeldOf) → members (may_at may n) h
-            ≡ given_of flit (observed self.old).public (members (may_at self.old.may n)) h }
         ensures after { observed self.new ≡ given (observed self.old) flit }
         ensures shown { self.new.shown ≡ self.old.shown }
     {
@@ -628,11 +765,12 @@ impl Line {
         let snooped = self.snooped_of(flit.agent.0);
         let shows = self.is_shown(flit);
         let makes = makes(flit.grant, due);
-        self.news = news_granted(makes, self.news);
-        self.home = home_then(shows, flit.shown, self.home);
-        self.may = may;
+        let renews = renews(flit.grant, due);
+        forget(&mut self.news, makes);
+        tell(&mut self.home, shows, &flit.shown);
+        show_others(&mut self.may, renews);
         self.may[at] = got;
-        self.due[at] = DueCode::encode(due_granted(flit.grant, due));
+        self.due[at] = code_granted(flit.grant, self.due[at]);
         self.snooped[at] = snooped_granted(flit.grant, snooped);
         self.duty = duty_granted(self.duty, flit.grant);
     }

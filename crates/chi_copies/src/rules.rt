@@ -1,7 +1,7 @@
 //! What flits say by themselves.
 
 ghost use Rattle.std.specs.Prelude.{◌≡◌, ◌&&◌, ◌||◌, Some, not};
-ghost use Rattle.chi_observer.specs.Rules.{allows, answer_drops, answer_has_data, are_hidden, completes, due_after, due_granted, form_has_data, form_passes, gives_copy, gives_data, gives_up, has_data, is_clean_form, is_completed, is_copy_back, is_due, is_request, is_shared_form, is_upgraded, is_whole_write, is_written_whole, leaves, left_by, lets_go, makes, needs_alone, needs_duty, needs_moment, needs_overwriter, needs_quiet, overwrites, passes_duty, reads_once, same_kind, settles, snooped_after, snooped_granted, tells_words, writes};
+ghost use Rattle.chi_observer.specs.Rules.{allows, answer_drops, answer_has_data, are_hidden, completes, due_after, due_granted, form_has_data, form_passes, gives_copy, gives_data, gives_up, has_data, is_clean_form, is_completed, is_copy_back, is_due, is_request, is_shared_form, is_upgraded, is_whole_write, is_written_whole, leaves, left_by, lets_go, makes, needs_alone, needs_duty, needs_moment, needs_overwriter, needs_quiet, passes_duty, reads_once, same_kind, settles, snooped_after, snooped_granted, tells_words, writes};
 
 use chi_flit::State;
 use chi_observer::{Act, Answer, Due, Grant, Kind, Snoop, Stores};
@@ -396,17 +396,6 @@ pub(crate) fn needs_overwriter(grant: Grant) -> bool
         | Grant::CompI
         | Grant::CompDBIDResp => false,
     }
-}
-
-/// Whether such a request is open.
-pub(crate) fn overwrites(due: Due) -> bool
-    ensures { result ≡ overwrites due }
-{
-    matches!(
-        due,
-        Due::Completion(Kind::MakeUnique | Kind::MakeInvalid | Kind::WriteUniqueFull)
-            | Due::SureCompletion(Kind::MakeUnique | Kind::MakeInvalid | Kind::WriteUniqueFull)
-    )
 }
 
 /// Whether a flit of the home is the completion of a MakeInvalid, behind which the home's own words are the value.

@@ -1,41 +1,57 @@
 //! What the copies of a set lead to.
 
-ghost use Rattle.std.specs.Prelude.{◌≡◌, ◌||◌, not, true};
+ghost use Rattle.std.specs.Prelude.{◌≡◌, ◌||◌};
 ghost use Rattle.chi_observer.specs.declared.flits.Due.TheVariants.{Nothing};
 ghost use Rattle.chi_copies.specs.Copies.{Held as HeldOf, image};
 ghost use Rattle.chi_copies.specs.Rules.{slips};
+ghost use Rattle.chi_copies.specs.Images.{led};
 ghost use Rattle.chi_copies.specs.Sets.{held_is, members};
+ghost use Rattle.chi_copies.specs.declared.steps.TheConstants.{DROPS};
 ghost use Rattle.chi_copies.specs.Lines.{leads_by};
-ghost use Rattle.chi_copies.specs.Observed.{any_of, shown_all};
+ghost use Rattle.chi_copies.specs.Observed.{shown_all};
 
 use crate::acts::{dropped, freed, granted, may_be_free, stored_to};
-use crate::copies::{Copies, held_at};
+use crate::copies::{Copies, Row, held_at};
 use crate::held::Held;
 use crate::rules::are_hidden;
 use crate::sends::{Sent, with_left};
-use crate::tests::{CANCELLED, Test};
+use crate::tests::Test;
 use chi_observer::{Due, Grant, Stores};
 
-/// Any of which a hidden step may make another: cancelled, unique or clean.
-const MOVING: Copies = Copies { bits: 0x0fe7_bf9e };
+// A bit is that of what the cache has (copies.rt), of a copy that is neither cancelled nor stored to; 7 more if its
+// request is cancelled, and 14 more if it was stored to.
 
-/// Unique, of a request that isn't cancelled, as all below.
-const UNIQUE: Copies = Copies { bits: 0x0007_001c };
+/// A drop of a clean copy.
+const DROPS: [Row; 4] = [
+    Row {
+        from: Copies { bits: 0x0000_000e },
+        to: Copies { bits: 0x0000_0001 },
+    },
+    Row {
+        from: Copies { bits: 0x0000_0700 },
+        to: Copies { bits: 0x0000_0080 },
+    },
+    Row {
+        from: Copies { bits: 0x0003_8000 },
+        to: Copies { bits: 0x0000_4000 },
+    },
+    Row {
+        from: Copies { bits: 0x01c0_0000 },
+        to: Copies { bits: 0x0020_0000 },
+    },
+];
 
-/// UD, and stored to.
-const WRITTEN: Copies = Copies { bits: 0x0004_0000 };
-
-/// Clean, of a cache that hasn't stored to it or thrown a newer one away.
-const CLEAN: Copies = Copies { bits: 0x0000_000e };
-
-/// None, of such a cache.
-const DROPPED: Copies = Copies { bits: 0x0000_0001 };
-
-/// Clean, of a cache that has.
-const STORED_CLEAN: Copies = Copies { bits: 0x0003_8000 };
-
-/// None, of such a cache.
-const STORED_DROPPED: Copies = Copies { bits: 0x0000_4000 };
+/// A store to a unique copy.
+const STORES: [Row; 2] = [
+    Row {
+        from: Copies { bits: 0x0007_001c },
+        to: Copies { bits: 0x0004_0000 },
+    },
+    Row {
+        from: Copies { bits: 0x0380_0e00 },
+        to: Copies { bits: 0x0200_0000 },
+    },
+];
 
 /// A step of one copy.
 /// Source: `docs/COPIES.md`, "What a copy is".
@@ -58,6 +74,7 @@ pub enum Step {
 }
 
 /// The set with what unseen steps lead to from the copy.
+#[inline(always)]
 fn with_hidden(stores: Stores, due: Due, held: Held, left: Copies) -> Copies
     ensures { (h : HeldOf) → members result h ≡ (members left h || slips stores due (held_is held) h) }
 {
@@ -74,6 +91,7 @@ fn with_hidden(stores: Stores, due: Due, held: Held, left: Copies) -> Copies
 
 impl Step {
     /// The set with what the copy leads to.
+    #[inline(always)]
     fn leads(self, held: Held, left: Copies) -> Copies
         ensures { (h : HeldOf) → members result h ≡ (members left h || leads_by self (held_is held) h) }
     {
@@ -89,6 +107,7 @@ impl Step {
     }
 
     /// The copies that those of a set lead to.
+    #[inline(always)]
     pub(crate) fn image(self, set: Copies) -> Copies
         ensures { (h : HeldOf) → members result h ≡ image (leads_by self) (members set) h }
     {
@@ -107,45 +126,41 @@ impl Copies {
     pub(crate) fn shown(self) -> Copies
         ensures { (h : HeldOf) → members result h ≡ shown_all (members self) h }
     {
-        if Test::Stored.any(self) {
-            Step::Shown.image(self)
+        Copies {
+            bits: (self.bits | self.bits >> 14) & 0x0000_3fff,
+        }
+    }
+
+    /// The copies behind drops of those that are clean.
+    fn dropped(self) -> Copies
+        ensures { (h : HeldOf) → members result h ≡ (members self h || led DROPS (members self) h) }
+    {
+        self.or(self.led(&DROPS))
+    }
+
+    /// The copies behind hidden steps of an agent of which nothing is due.
+    fn free(self, stores: Stores) -> Copies
+        ensures { (h : HeldOf) → members result h ≡ image (slips stores Nothing) (members self) h }
+    {
+        let dropped = self.dropped();
+        if are_hidden(stores) {
+            dropped.or(self.led(&STORES))
         } else {
-            self
+            dropped
         }
-    }
-
-    /// Whether it has none of some copies, or one of others too.
-    fn has_beside(self, some: Copies, others: Copies) -> bool
-        ensures { result ≡ (not (any_of (members self) (members some)) || any_of (members self) (members others)) }
-    {
-        let has_some = self.meets(some);
-        let has_others = self.meets(others);
-        !has_some || has_others
-    }
-
-    /// Whether it is plain that hidden steps of an agent of which nothing is due lead to no other copy.
-    pub(crate) fn is_closed(self, stores: Stores) -> bool
-        ensures { result ≡ true → (h : HeldOf) → members self h ≡ image (slips stores Nothing) (members self) h }
-    {
-        if !self.meets(MOVING) {
-            return true;
-        }
-        let is_cancelled = self.meets(CANCELLED);
-        let has_stored = self.has_beside(UNIQUE, WRITTEN);
-        let has_dropped = self.has_beside(CLEAN, DROPPED);
-        let has_stored_dropped = self.has_beside(STORED_CLEAN, STORED_DROPPED);
-        let may_store = are_hidden(stores);
-        !is_cancelled & ((!may_store | has_stored) & (has_dropped & has_stored_dropped))
     }
 
     /// The copies behind hidden steps of an agent of which this is due.
     pub(crate) fn hidden(self, stores: Stores, due: Due) -> Copies
         ensures { (h : HeldOf) → members result h ≡ image (slips stores due) (members self) h }
     {
-        if may_be_free(due) {
-            Step::Hidden(stores, due).image(self)
-        } else {
-            self
+        match due {
+            Due::Nothing => self.free(stores),
+            Due::Resending(_) => Step::Hidden(stores, due).image(self),
+            Due::Completion(_) => self,
+            Due::SureCompletion(_) => self,
+            Due::WriteData(_) => self,
+            Due::Acknowledgement => self,
         }
     }
 }

@@ -10,10 +10,9 @@ ghost use Rattle.chi_copies.specs.Sets.{copy_is, held_is, members};
 ghost use Rattle.chi_copies.specs.declared.tests.Test.TheVariants.{Shows};
 ghost use Rattle.chi_copies.specs.Lines.{apart_by, passes};
 
-use crate::copies::{Copies, EVERY};
+use crate::copies::{Copies, EVERY, Row};
 use crate::held::{CacheCopy, Held};
 use crate::rules::{gives_copy, gives_data};
-use crate::steps::Step;
 use chi_observer::{Due, Grant};
 
 // A bit is that of what the cache has (copies.rt), of a copy that is neither cancelled nor stored to; 7 more if its
@@ -41,10 +40,10 @@ const STORED: Copies = Copies { bits: 0x0fff_c000 };
 const LOST: Copies = Copies { bits: 0x09f3_c000 };
 
 /// With the value, which the home hasn't.
-const NEWER: Copies = Copies { bits: 0x06cd_8000 };
+pub(crate) const NEWER: Copies = Copies { bits: 0x06cd_8000 };
 
 /// With the value, which the home has too.
-const FRESH: Copies = Copies { bits: 0x0000_1b36 };
+pub(crate) const FRESH: Copies = Copies { bits: 0x0000_1b36 };
 
 /// With the value, which the home has too, and not UD.
 const HOME_COPY: Copies = Copies { bits: 0x0000_1326 };
@@ -66,6 +65,30 @@ const APART_FROM_CLEAN: Copies = Copies { bits: 0x0b97_2e5c };
 
 /// None that another cache may have beside a shared dirty one.
 const APART_FROM_DIRTY: Copies = Copies { bits: 0x0f9f_3e7c };
+
+/// None that another cache may have beside one of these.
+const APART: [Row; 5] = [
+    Row {
+        from: APART_FROM_CLEAN,
+        to: LEFT,
+    },
+    Row {
+        from: Copies { bits: 0x0040_8102 },
+        to: APART_FROM_CLEAN,
+    },
+    Row {
+        from: Copies { bits: 0x0408_1020 },
+        to: APART_FROM_DIRTY,
+    },
+    Row {
+        from: THROWN,
+        to: FRESH,
+    },
+    Row {
+        from: FRESH,
+        to: THROWN,
+    },
+];
 
 /// What a copy may be.
 /// Source: `docs/COPIES.md`, "What a copy is".
@@ -102,7 +125,7 @@ pub enum Test {
 }
 
 /// The copies that a store may be to while this is due.
-fn storable(due: Due) -> Copies
+pub(crate) fn storable(due: Due) -> Copies
     ensures { (h : HeldOf) → members result h ≡ may_store due h }
 {
     match due {
@@ -177,6 +200,7 @@ fn surely_apart(held: Held) -> Copies
 
 impl Test {
     /// The copies that are so.
+    #[inline(always)]
     pub(crate) fn copies(self) -> Copies
         ensures { (h : HeldOf) → members result h ≡ passes self h }
     {
@@ -199,6 +223,7 @@ impl Test {
     }
 
     /// Whether some copy of the set is so.
+    #[inline(always)]
     pub(crate) fn any(self, set: Copies) -> bool
         ensures { result ≡ any_of (members set) (passes self) }
     {
@@ -210,6 +235,6 @@ impl Test {
 pub(crate) fn apart_by(set: Copies, alone: bool) -> Copies
     ensures { (h : HeldOf) → members result h ≡ apart_by (members set) alone h }
 {
-    let apart = Step::Apart.image(set);
+    let apart = set.led(&APART);
     if alone { apart.or(LEFT) } else { apart }
 }
