@@ -50,3 +50,11 @@ mod Prompt
 mod PromptGiven
 mod PromptSafe
 mod PromptLogs
+pub mod ArrivingRows
+pub mod ArrivingSides
+pub mod ArrivingMembers
+pub mod ArrivingEqual
+pub mod ArrivingPlaces
+pub mod ArrivingAgents
+pub mod ArrivingReceived
+pub mod ArrivingGiven

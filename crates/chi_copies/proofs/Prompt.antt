@@ -19,13 +19,17 @@ use Rattle.chi_copies.specs.Copies.{Held, plain, shown_of, is_fresh, is_newer, i
 use Rattle.chi_copies.specs.Rules.{is_resent, is_due_data, lets, row, acts, slips, may_be_free}
 use Rattle.chi_copies.specs.Worlds.{put, all_below, is_placed, others_then}
 use Rattle.chi_copies.specs.Observed.{Observed, Sound, fits_at, fits_each, fits_home, home_at, known_of, has_news, sent, takes, moved, loose, next}
-use Rattle.chi_copies.specs.Arriving.{Age, Reply, Member, Asked, snoop_of, is_last, is_own, is_new, has_words_so, comes, with_mark, age_sent, left_unseen, number_of_age, any_age, any_of, same_flit, same_member, led, steps, Received, settled, came, may_come, requested, is_elsewhere, may_be, brings, replied, may_bring, passed, passed_by, is_shown, answered, acknowledged, request_comes, data_come, received_by, received_then, due_then, count}
+use Rattle.chi_copies.specs.declared.replies.Age.{Age}
+use Rattle.chi_copies.specs.declared.replies.Reply.{Reply}
+use Rattle.chi_copies.specs.declared.replies.Asked.{Asked}
+use Rattle.chi_copies.specs.Arriving.{Member, snoop_of, is_last, is_own, is_new, has_words_so, comes, with_mark, age_sent, left_unseen, number_of_age, any_age, any_of, same_flit, same_member, led, steps, Received, settled, came, may_come, requested, is_elsewhere, may_be, brings, replied, may_bring, passed, passed_by, is_shown, answered, acknowledged, request_comes, data_come, received_by, received_then, due_then, count}
 use Rattle.chi_copies.specs.Arriving.{sent as sent_member, sent_of, sends as may_send, due_by, due_unsent}
-use Rattle.chi_copies.specs.Arriving.Age.{Own, Last}
-use Rattle.chi_copies.specs.Arriving.Asked.{NoReply}
+use Rattle.chi_copies.specs.declared.replies.Age.TheVariants.{Own, Last}
+use Rattle.chi_copies.specs.declared.replies.Asked.TheVariants.{NoReply}
 use Rattle.chi_copies.specs.Prompt.{at_rest, answer_to, asked_by, KnowsSame, IsPrompt, is_access, BeginsPrompt, PromptFlitsAreTaken, StaysPrompt}
 use Rattle.chi_copies.proofs.Finite.{no, left, right, both, or_left, or_right, either, by_truth, by_false, turned, flip, out_held}
-use Rattle.chi_copies.proofs.Rows.{same_held_is, some_is, gives_away}
+use Rattle.chi_copies.specs.ArrivingLines.{gives_away, is_asking}
+use Rattle.chi_copies.proofs.Rows.{same_held_is, some_is}
 use Rattle.chi_copies.proofs.Means.{sane, none_stored, free_may}
 use Rattle.chi_copies.proofs.Moved.{own_but, Came, came as came_from, one_came, others_after, other_of, quiet_at}
 use Rattle.chi_copies.proofs.Loose.{slip_of}
@@ -34,7 +38,7 @@ use Rattle.chi_copies.proofs.Leads.{all_by, none_some_nat, ack_is}
 use Rattle.chi_copies.proofs.Larger.{fits_less}
 use Rattle.chi_copies.proofs.Sets.{each_below}
 use Rattle.chi_copies.proofs.Put.{here, there, everywhere}
-use Rattle.chi_copies.proofs.PromptSteps.{flit_self, age_self, member_self, in_age, is_asking, asking, replying, in_rest, in_asking, in_replying, stay_step, ask_step, reply_step, acked, own_is, three_steps, slip_way}
+use Rattle.chi_copies.proofs.PromptSteps.{flit_self, age_self, member_self, in_age, asking, replying, in_rest, in_asking, in_replying, stay_step, ask_step, reply_step, acked, own_is, three_steps, slip_way}
 
 pub three : {A B C : Type 0} (R : ℕ → A → B → C → Type 0) (n : ℕ) (a : A) (b : B) (c : C) (f : ℕ → A) (g : ℕ → B) (h : ℕ → C) → R n a b c → ((m : ℕ) → m ≢ n → R m (f m) (g m) (h m)) → (m : ℕ) → R m (put n a f m) (put n b g m) (put n c h m)
 three R n a b c f g h at rest = everywhere (λ m x y. R m x y (put n c h m)) n a b f g (subst (λ z. R n a b z) (sym (here n c h)) at) (λ m d. subst (λ z. R m (f m) (g m) z) (sym (there n c h m d)) (rest m d))

@@ -16,7 +16,9 @@ use Rattle.chi_copies.specs.Copies.{Held, shown_of, is_newer, same_held, all_bes
 use Rattle.chi_copies.specs.Rules.{granted, shows, fills, renews, is_without_news, waits_without_news}
 use Rattle.chi_copies.specs.Worlds.{home_may, all_below, others_given}
 use Rattle.chi_copies.specs.Observed.{Observed, Sound, home_at, any_of, got as given_got, given_of, is_beside, goes, fits_home, takes_home, given}
-use Rattle.chi_copies.specs.Arriving.{Age, Reply, Member, snoop_of, awaits_data, followed, aged, comes, is_gone, with_mark, cleared, replaced, same_member, led, Received, gained, may_write, is_completion, beheld, got as member_got, any_of as member_any, others, due_then, asked_then, overtakes, given_reply, count, behind_given}
+use Rattle.chi_copies.specs.declared.replies.Age.{Age}
+use Rattle.chi_copies.specs.declared.replies.Reply.{Reply}
+use Rattle.chi_copies.specs.Arriving.{Member, snoop_of, awaits_data, followed, aged, comes, is_gone, with_mark, cleared, replaced, same_member, led, Received, gained, may_write, is_completion, beheld, got as member_got, any_of as member_any, others, due_then, asked_then, overtakes, given_reply, count, behind_given}
 use Rattle.chi_copies.specs.Prompt.{at_rest, answer_to, asked_by, KnowsSame, IsPrompt, IsShown, StaysPromptGiven}
 use Rattle.chi_copies.proofs.Finite.{no, left, right, both, or_left, by_truth, turned, flip, implies, follow, all_kinds, each_kind, in_held, out_held, in_image, out_image}
 use Rattle.chi_copies.proofs.Rows.{same_is, same_held_is, same_held_self}

@@ -18,11 +18,16 @@ use Rattle.chi_copies.specs.Copies.{Held, same_held}
 use Rattle.chi_copies.specs.Rules.{is_free, freed, stored_to, dropped, may_be_free}
 use Rattle.chi_copies.specs.Sets.{any_below}
 use Rattle.chi_copies.specs.Dues.{kind_at, number_of}
-use Rattle.chi_copies.specs.Arriving.{Age, Reply, Member, Members, Asked, due_unsent, due_by, own_due, with_held, sends, stores, any_kind, any_request, any_answer, any_form, any_reply, any_age, any_sent, any_or, any_member, same_flit, number_of_age, same_option, same_member, is_some, led, steps, times, loose, due_then}
-use Rattle.chi_copies.specs.Arriving.Age.{Own, Last, Past, Older}
+use Rattle.chi_copies.specs.declared.replies.Age.{Age}
+use Rattle.chi_copies.specs.declared.replies.Reply.{Reply}
+use Rattle.chi_copies.specs.declared.replies.Asked.{Asked}
+use Rattle.chi_copies.specs.Arriving.{Member, Members, due_unsent, due_by, own_due, with_held, sends, stores, any_kind, any_request, any_answer, any_form, any_reply, any_age, any_sent, any_or, any_member, same_flit, number_of_age, same_option, same_member, is_some, led, steps, times, loose, due_then}
+use Rattle.chi_copies.specs.declared.replies.Age.TheVariants.{Own, Last, Past, Older}
+use Rattle.chi_copies.specs.ArrivingLines.{is_asking}
 use Rattle.chi_copies.specs.Prompt.{at_rest, answer_to, asked_by}
 use Rattle.chi_copies.proofs.Finite.{no, both, or_left, or_right, all_kinds, each_kind, each_answer, each_form, in_held, kind_is}
-use Rattle.chi_copies.proofs.Rows.{same_held_self, gives_away}
+use Rattle.chi_copies.specs.ArrivingLines.{gives_away}
+use Rattle.chi_copies.proofs.Rows.{same_held_self}
 use Rattle.chi_copies.proofs.Loose.{Slipped}
 use Rattle.chi_copies.proofs.Loose.Slipped.{Still, Freed, Store as StoreSlip, Drop}
 use Rattle.chi_copies.proofs.Put.{differ}
@@ -60,7 +65,7 @@ member_self m = both (same_held m.held m.held) _ (same_held_self m.held) (both (
     (option_self same_reply (λ r. both (same_flit r.act r.act) _ (flit_self r.act) (age_self r.age)) m.reply))
 
 -- MEMBERS THAT ARE TRIED
-in_below : (k : ℕ) (f : ℕ → Bool) (p : ℕ) → p < k → f p ≡ true → any_below k f ≡ true
+pub in_below : (k : ℕ) (f : ℕ → Bool) (p : ℕ) → p < k → f p ≡ true → any_below k f ≡ true
 in_below zero f p l e = absurd (omega arith)
 in_below (suc k) f p l e = by (p == k) refl (λ d. in_below k f p d e)
   where
@@ -71,10 +76,10 @@ in_below (suc k) f p l e = by (p == k) refl (λ d. in_below k f p d e)
     by true q g = or_left (f k) _ (subst (λ x. f x ≡ true) (eqb-true p k q) e)
     by false q g = or_right (f k) _ (g (below l (differ p k q)))
 
-in_kind : (f : Kind → Bool) (kind : Kind) → f kind ≡ true → any_kind f ≡ true
+pub in_kind : (f : Kind → Bool) (kind : Kind) → f kind ≡ true → any_kind f ≡ true
 in_kind f kind e = in_below 16 (λ n. f (kind_at n)) (number_of kind) (kind_is kind).1 (subst (λ k. f k ≡ true) (sym (kind_is kind).0) e)
 
-in_answer : (f : Answer → Bool) (a : Answer) → f a ≡ true → any_answer f ≡ true
+pub in_answer : (f : Answer → Bool) (a : Answer) → f a ≡ true → any_answer f ≡ true
 in_answer f SnpRespI e = or_left (f SnpRespI) _ e
 in_answer f SnpRespSC e = or_right (f SnpRespI) _ (or_left (f SnpRespSC) _ e)
 in_answer f SnpRespUC e = or_right (f SnpRespI) _ (or_right (f SnpRespSC) _ (or_left (f SnpRespUC) _ e))
@@ -87,7 +92,7 @@ in_answer f SnpRespDataIPD e = or_right (f SnpRespI) _ (or_right (f SnpRespSC) _
 in_answer f SnpRespDataSCPD e = or_right (f SnpRespI) _ (or_right (f SnpRespSC) _ (or_right (f SnpRespUC) _ (or_right (f SnpRespDataI) _ (or_right (f SnpRespDataSC) _ (or_right (f SnpRespDataUC) _ (or_right (f SnpRespDataUD) _ (or_right (f SnpRespDataSD) _ (or_right (f SnpRespDataIPD) _ (or_left (f SnpRespDataSCPD) _ e)))))))))
 in_answer f SnpRespDataUCPD e = or_right (f SnpRespI) _ (or_right (f SnpRespSC) _ (or_right (f SnpRespUC) _ (or_right (f SnpRespDataI) _ (or_right (f SnpRespDataSC) _ (or_right (f SnpRespDataUC) _ (or_right (f SnpRespDataUD) _ (or_right (f SnpRespDataSD) _ (or_right (f SnpRespDataIPD) _ (or_right (f SnpRespDataSCPD) _ e)))))))))
 
-in_form : (f : State → Bool) (s : State) → f s ≡ true → any_form f ≡ true
+pub in_form : (f : State → Bool) (s : State) → f s ≡ true → any_form f ≡ true
 in_form f forms.I e = or_left (f forms.I) _ e
 in_form f forms.SC e = or_right (f forms.I) _ (or_left (f forms.SC) _ e)
 in_form f forms.UC e = or_right (f forms.I) _ (or_right (f forms.SC) _ (or_left (f forms.UC) _ e))
@@ -100,13 +105,7 @@ in_age f Last h = or_right (f Own) _ (or_left (f Last) _ h)
 in_age f Past h = or_right (f Own) _ (or_right (f Last) _ (or_left (f Past) _ h))
 in_age f Older h = or_right (f Own) _ (or_right (f Last) _ (or_right (f Past) _ h))
 
--- a request, or one that is sent again
-abbrev pub is_asking : Act → Bool
-is_asking (Request kind) = true
-is_asking (Resend kind) = true
-is_asking other = false
-
-in_request : (f : Act → Bool) (a : Act) → is_asking a ≡ true → f a ≡ true → any_request f ≡ true
+pub in_request : (f : Act → Bool) (a : Act) → is_asking a ≡ true → f a ≡ true → any_request f ≡ true
 in_request f (Request kind) l e = in_kind (λ kind. f (Request kind) || f (Resend kind)) kind (or_left (f (Request kind)) _ e)
 in_request f (Resend kind) l e = in_kind (λ kind. f (Request kind) || f (Resend kind)) kind (or_right (f (Request kind)) _ e)
 in_request f (SnpResp answer) l e = no l
@@ -116,7 +115,7 @@ in_request f NonCopyBackWrData l e = no l
 in_request f (Load word) l e = no l
 in_request f (Store word) l e = no l
 
-in_reply : (f : Act → Bool) (a : Act) → gives_away a ≡ true → f a ≡ true → any_reply f ≡ true
+pub in_reply : (f : Act → Bool) (a : Act) → gives_away a ≡ true → f a ≡ true → any_reply f ≡ true
 in_reply f (SnpResp answer) l e = or_left (any_answer (λ a. f (SnpResp a))) _ (in_answer (λ a. f (SnpResp a)) answer e)
 in_reply f (CopyBackWrData form) l e = or_right (any_answer (λ a. f (SnpResp a))) _ (or_left (any_form (λ s. f (CopyBackWrData s))) _ (in_form (λ s. f (CopyBackWrData s)) form e))
 in_reply f NonCopyBackWrData l e = or_right (any_answer (λ a. f (SnpResp a))) _ (or_right (any_form (λ s. f (CopyBackWrData s))) _ e)

@@ -7,6 +7,7 @@ use Rattle.chi_observer.specs.declared.flits.Act.TheVariants.{Request, Resend, S
 use Rattle.chi_observer.specs.Copies.{Copy, holds_data, is_unique, is_dirty, same, compatible}
 use Rattle.chi_observer.specs.Rules.{has_data, writes, tells_words, looks, is_request}
 use Rattle.chi_copies.specs.Copies.{Held, shown_of, is_fresh, is_newer, beside, alike, same_held, leaves}
+use Rattle.chi_copies.specs.ArrivingLines.{gives_away}
 use Rattle.chi_copies.specs.Rules.{is_without_news, stored_to, row, loses}
 use Rattle.chi_copies.specs.Worlds.{others_then}
 use Rattle.chi_copies.specs.Observed.{is_storable, is_shown_dirty}
@@ -121,12 +122,6 @@ is_store_row (Store word) own = true
 is_store_row other own = false
 
 -- an answer, or write data
-abbrev pub gives_away : Act → Bool
-gives_away (SnpResp answer) = true
-gives_away (CopyBackWrData form) = true
-gives_away NonCopyBackWrData = true
-gives_away other = false
-
 abbrev pub is_row_without_news : Act → Bool
 is_row_without_news (Request kind) = is_without_news kind
 is_row_without_news other = false

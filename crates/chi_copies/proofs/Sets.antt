@@ -77,7 +77,7 @@ any_step : (k : ℕ) (f : ℕ → Bool) (p : ℕ) (b : Bool) → (p == k) ≡ b 
 any_step k f p true e l h rest = or_left (f k) _ (subst (λ x. f x ≡ true) (eqb-true p k e) h)
 any_step k f p false e l h rest = let d : p ≢ k = differ p k e in or_right (f k) _ (rest (search (rules, arith)))
 
-any_in : (k : ℕ) (f : ℕ → Bool) (p : ℕ) → p < k → f p ≡ true → any_below k f ≡ true
+pub any_in : (k : ℕ) (f : ℕ → Bool) (p : ℕ) → p < k → f p ≡ true → any_below k f ≡ true
 any_in zero f p l h = absurd (search (rules, arith))
 any_in (suc k) f p l h = any_step k f p (p == k) refl l h (λ m. any_in k f p m h)
 

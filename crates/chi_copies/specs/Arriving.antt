@@ -21,6 +21,11 @@ use Rattle.chi_observer.specs.declared.flits.Flit.TheVariants.{Up, Down}
 use Rattle.chi_observer.specs.Copies.{copy_of, holds_data, is_unique, is_dirty, is_clean, same, compatible}
 use Rattle.chi_observer.specs.Copies.Copy.{Invalid}
 use Rattle.chi_observer.specs.Rules.{same_kind, is_resending, is_upgraded, is_written_whole, awaits_moment, reads_once, needs_moment, needs_quiet, needs_duty, needs_alone, allows, lets_go, left_by, due_after, due_granted, tells_words, writes, passes_duty, makes, settles, copy_granted, is_acknowledging}
+use Rattle.chi_copies.specs.declared.replies.Age.{Age}
+use Rattle.chi_copies.specs.declared.replies.Age.TheVariants.{Own, Last, Past, Older}
+use Rattle.chi_copies.specs.declared.replies.Reply.{Reply}
+use Rattle.chi_copies.specs.declared.replies.Asked.{Asked}
+use Rattle.chi_copies.specs.declared.replies.Asked.TheVariants.{NoReply, AnswerTo, DataOf}
 use Rattle.chi_copies.specs.Copies.{Held, plain, same_held, is_fresh, any_held}
 use Rattle.chi_copies.specs.Rules.{acts, is_free, freed, stored_to, dropped, fills, shows}
 use Rattle.chi_copies.specs.Worlds.{Public, all_below, put, home_may}
@@ -30,19 +35,6 @@ use Rattle.chi_copies.specs.Dues.{kind_at}
 use Rattle.chi_copies.specs.Moments.{is_issue}
 
 -- ONE AGENT
--- how old words on their way are: the home's own; the value last stored, which the home hasn't; another that the home hasn't, and a
--- store followed; or older than some that the home has received since
-pub data Age : Type 0 where
-  Own : Age
-  Last : Age
-  Past : Age
-  Older : Age
-
--- an answer or write data on their way
-pub record Reply : Type 0 where
-  pub act : Act
-  pub age : Age
-
 -- its copy; and of what it has sent a request, or one that is sent again, and a reply on their way. A CompAck is sent with its
 -- completion: until then its agent does nothing
 pub record Member : Type 0 where
@@ -52,12 +44,6 @@ pub record Member : Type 0 where
 
 abbrev pub Members : Type 0
 Members = Member → Bool
-
--- the reply that the home awaits of an agent: to a snoop, or the write data of a request of this kind
-pub data Asked : Type 0 where
-  NoReply : Asked
-  AnswerTo : Snoop → Asked
-  DataOf : Kind → Asked
 
 abbrev pub snoop_of : Asked → Option Snoop
 snoop_of (AnswerTo snoop) = Some snoop
@@ -404,6 +390,7 @@ abbrev pub received_then : Act → Received → Bool → CacheFlit → Received
 received_then (Request kind) o late f = requested o f
 received_then (Resend kind) o late f = requested o f
 received_then CompAck o late f = acknowledged o f.agent.0
+received_then (SnpResp answer) o late f = answered o f
 received_then a o late f = if late then forgot o f else answered o f
 
 abbrev pub next_received : Received → Bool → CacheFlit → Received

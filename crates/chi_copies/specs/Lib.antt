@@ -19,4 +19,5 @@ pub mod BegunRefusals
 pub mod Tails
 pub mod Unjudged
 pub mod Arriving
+pub mod ArrivingLines
 pub mod Prompt

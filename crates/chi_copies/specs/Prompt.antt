@@ -14,9 +14,10 @@ use Rattle.chi_copies.specs.Copies.{Held}
 use Rattle.chi_copies.specs.Observed.{Observed, Sound, home_at, takes, next, any_of, fits_home, takes_home, next_home}
 use Rattle.chi_copies.specs.Rules.{shows}
 use Rattle.chi_copies.specs.Runs.{nothing_told, seen, Legal}
-use Rattle.chi_copies.specs.Arriving.{Member, Asked, snoop_of, steps, Received, nothing_received, due_then, count, takes_received, next_received, takes_given, next_given}
+use Rattle.chi_copies.specs.declared.replies.Asked.{Asked}
+use Rattle.chi_copies.specs.Arriving.{Member, snoop_of, steps, Received, nothing_received, due_then, count, takes_received, next_received, takes_given, next_given}
 use Rattle.chi_copies.specs.Arriving.{any_of as any_member_of}
-use Rattle.chi_copies.specs.Arriving.Asked.{NoReply, AnswerTo, DataOf}
+use Rattle.chi_copies.specs.declared.replies.Asked.TheVariants.{NoReply, AnswerTo, DataOf}
 
 -- nothing of its agent is on its way
 abbrev pub at_rest : Held → Member

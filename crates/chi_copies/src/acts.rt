@@ -32,7 +32,7 @@ fn copy_of(form: State) -> CacheCopy
 }
 
 /// Whether nothing is pending of the copy: no request, or one that was retried and cancelled.
-fn is_free(due: Due, held: Held) -> bool
+pub(crate) fn is_free(due: Due, held: Held) -> bool
     ensures { result ≡ is_free due (held_is held) }
 {
     match due {

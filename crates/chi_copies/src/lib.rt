@@ -5,6 +5,8 @@
 #![tactic(auto)]
 
 mod acts;
+mod arriving;
+mod arriving_given;
 mod begun;
 mod begun_given;
 mod begun_moments;
@@ -15,17 +17,29 @@ mod dues;
 mod held;
 mod laws;
 mod line;
+mod members;
+mod moves;
+mod received;
+mod replies;
 mod rules;
 mod sends;
+mod side_tests;
+mod sides;
+mod standing;
 mod steps;
 mod tests;
 mod timed;
 mod unjudged;
 
+pub use arriving::Arriving;
 pub use begun::Begun;
 pub use copies::{Copies, NOBODY};
 pub use dues::{DueCode, NOTHING_DUE};
 pub use held::{CacheCopy, Held};
 pub use laws::{above, cache_flits, calls, home_flits, meaning, outstanding, tails, traces};
 pub use line::{AGENTS, Line, Reason};
+pub use members::Members;
+pub use replies::{Age, Asked, Reply};
+pub use sides::Sides;
+pub use standing::{Facts, Standing};
 pub use unjudged::Unjudged;

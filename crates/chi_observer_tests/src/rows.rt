@@ -6,8 +6,9 @@
 //! `? CAUSE`, from which on the line isn't judged. `owner` is agent 0's read of the old words, alone.
 
 /// All rows.
-pub(crate) const ROWS: [&[&str]; 10] = [
-    &ACCESSES, &ARRIVALS, &BEGUN, &KINDS, &LISTED, &READS, &TAILS, &THROWN, &TRACES, &WORDS,
+pub(crate) const ROWS: [&[&str]; 11] = [
+    &ACCESSES, &ARRIVALS, &ARRIVING, &BEGUN, &KINDS, &LISTED, &READS, &TAILS, &THROWN, &TRACES,
+    &WORDS,
 ];
 
 /// Loads and stores of processors, by what is known of their copies.
@@ -190,4 +191,24 @@ const WORDS: [&str; 17] = [
     "hidden an_answer_of_the_loaded_words_leaves_that_open owner ; 0 WriteBackFull ; >0 RetryAck ; 0 Load(9) ; 1 ReadShared ; >0 SnpShared ; 0 SnpRespData_SC_PD new ; 0 WriteBackFull again",
     "hidden an_answer_of_words_that_nobody_loaded_leaves_that_open owner ; 0 WriteBackFull ; 0 Load(5) ; >0 RetryAck ; 1 ReadShared ; >0 SnpShared ; 0 SnpRespData_SC_PD later ; 0 WriteBackFull again",
     "listed where_all_stores_are_listed_an_answer_tells_of_no_cancel owner ; 0 Store(9) ; 0 WriteBackFull ; >0 RetryAck ; 1 ReadShared ; >0 SnpShared ; 0 SnpRespData_SC_PD old ! OtherWords ; 0 SnpRespData_SC_PD new ; 0 WriteBackFull again",
+];
+
+/// Flits of caches as they come to the home, by sets of what their agents may be.
+const ARRIVING: [&str; 16] = [
+    "arriving a_request_comes_from_no_copy 0 ReadShared",
+    "arriving each_agent_has_one 0 ReadShared ; 1 ReadUnique ; 2 WriteUniqueFull",
+    "arriving one_beside_an_open_one 0 ReadShared ; 0 ReadShared ! NotSent",
+    "arriving one_beside_it_of_another_kind 0 ReadShared ; 0 MakeUnique ! NotSent",
+    "arriving nothing_changes_then 0 Evict ! NotSent ; 0 ReadOnce",
+    "arriving no_copy_is_given_up 0 Evict ! NotSent",
+    "arriving no_dirty_copy_is_written 0 WriteBackFull ! NotSent",
+    "arriving no_clean_copy_is_written 0 WriteEvictFull ! NotSent",
+    "arriving none_was_retried 0 ReadShared again ! NotSent",
+    "arriving no_CompAck_is_due 0 CompAck ! NotSent",
+    "arriving no_snoop_is_answered 0 SnpResp_I ! NotSent",
+    "arriving nor_behind_a_request 0 ReadShared ; 0 SnpResp_I ! NotSent",
+    "arriving no_write_data_are_due 0 CopyBackWrData_I ! NotSent",
+    "arriving nor_those_of_a_whole_line 0 WriteUniqueFull ; 0 NonCopyBackWrData ! NotSent",
+    "arriving no_loads_come 0 Load(7) ! NotSent ; 0 Load(beyond) ! NotSent",
+    "arriving no_such_agent 32 ReadShared ! NotSent",
 ];

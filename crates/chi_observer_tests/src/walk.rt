@@ -2,7 +2,7 @@
 
 use crate::rows::ROWS;
 use crate::said::{OLD, Said, said_by};
-use chi_copies::{Begun as BegunBySets, Line};
+use chi_copies::{Arriving, Begun as BegunBySets, Line};
 use chi_flit::{Agent, Data, NO_DATA, State};
 use chi_observer::{
     Act, Arrivals, Begun, CacheFlit, Flit, Grant, HomeFlit, Kind, Reason, Stores, Untaken,
@@ -15,6 +15,8 @@ enum Judge {
     Whole(WordedObserver),
     Home(Arrivals),
     Begun(Begun),
+    /// By sets of what agents may be that have flits on their way: whether one of a cache is accepted, and no reason.
+    Arriving(Arriving),
     /// By sets of copies: whether a flit is accepted, and no reason.
     Copies(Line),
     CopiesBegun(BegunBySets),
@@ -27,6 +29,7 @@ impl Judge {
             b"hidden" => Some(Judge::Whole(WordedObserver::new(Stores::Hidden))),
             b"listed" => Some(Judge::Whole(WordedObserver::new(Stores::Listed))),
             b"home" => Some(Judge::Home(Arrivals::new())),
+            b"arriving" => Some(Judge::Arriving(Arriving::new())),
             b"begun" | b"tails" => Some(Judge::Begun(Begun::new(Stores::Hidden))),
             _ => None,
         }
@@ -51,6 +54,12 @@ impl Judge {
 
     fn take(&mut self, flit: Flit) -> Result<(), Untaken> {
         match self {
+            Judge::Arriving(line) => match flit {
+                Flit::Up(sent) => line
+                    .take(sent, false)
+                    .map_err(|_| Untaken::Fault(Reason::NotSent)),
+                Flit::Down(_) => Err(Untaken::Fault(Reason::NotDue)),
+            },
             Judge::Copies(line) => match flit {
                 Flit::Up(sent) => line.take(sent),
                 Flit::Down(given) => line.take_home(given),

@@ -1,0 +1,7 @@
+-- So far each has taken them, and the others are as they were.
+use Rattle.std.proofs.Common.{◌≡◌, ℕ, ◌<◌, ◌≤◌, length}
+use Rattle.chi_copies.specs.ArrivingLines.{Settles, agent_at}
+use Rattle.chi_copies.proofs.arriving.settle.Given as goal
+
+abbrev pub invariant-loop-n : goal.invariant-loop-n
+invariant-loop-n l = (length l.agents ≡ 32) × ((m : ℕ) → m < l.n → Settles (agent_at l.fn.agents m) (agent_at l.agents m)) × ((m : ℕ) → l.n ≤ m → agent_at l.agents m ≡ agent_at l.fn.agents m)
