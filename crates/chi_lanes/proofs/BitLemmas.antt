@@ -8,6 +8,15 @@ use Rattle.std.proofs.lemmas.Nat.{and_block, and_mask, mod_below, mod_low, pow-a
 use Rattle.std.proofs.lemmas.Nat.Bits.{bit_at-lt, bit_at-trailing_zeros, bit_at-zero, bit_at_above, bit_at_and, bit_at_cat_high, bit_at_cat_low, bit_at_mask_below, bit_at_mask_inside, bit_at_or, bit_at_xor, ones_shl, same_from_bits, same_from_bits_below}
 use Rattle.chi_lanes.specs.Columns.{changes_at}
 
+-- what a bit says of a test
+pub set_is : (b : Bool) → cond {A = ℕ} b 1 0 ≡ 1 → b ≡ true
+set_is true e = refl
+set_is false e = absurd (omega (arith, e))
+
+pub clear_is : (b : Bool) → cond {A = ℕ} b 1 0 ≡ 0 → b ≡ false
+clear_is true e = absurd (omega (arith, e))
+clear_is false e = refl
+
 -- a cut at 64 bits
 low_bit : (n k : ℕ) → k < 64 → bit_at (n % 2 ^ 64) k ≡ bit_at n k
 low_bit n k low = sym (bit_at_cat_low (n / 2 ^ 64) 64 (n % 2 ^ 64) k low) ∙ ap (λ m. bit_at m k) (shr_split n 64)

@@ -1,11 +1,12 @@
 -- The first blank of a text, by masks of 64 bytes.
-use Rattle.std.proofs.Common.{◌≡◌, ℕ, ◌+◌, ◌-◌, ◌<◌, ◌≤◌, List, Bool, true, false, cond, length, nat_lt, Some, None, refl, sym, ap, subst, ◌∙◌, arith, ⊎_elim}
+use Rattle.std.proofs.Common.{◌≡◌, ℕ, ◌+◌, ◌-◌, ◌<◌, ◌≤◌, List, true, false, cond, length, nat_lt, Some, None, sym, ap, subst, ◌∙◌, arith, ⊎_elim}
 use Rattle.std.specs.Int.{bit_at}
 use Rattle.std.specs.List.{position, position_or_len}
 use Rattle.std.proofs.lemmas.Bool.{cases_lt}
 use Rattle.std.proofs.lemmas.Bool.Decides.{nat_tests}
 use Rattle.std.proofs.lemmas.List.Sums.{position_or_len_is}
 use Rattle.std.proofs.lemmas.Nat.Bits.{bit_at-zero}
+use Rattle.chi_lanes.proofs.BitLemmas.{clear_is, set_is}
 use Rattle.chi_lanes.proofs.PadLemmas.{bit_of}
 use Rattle.chi_lanes.specs.Columns.{blank_at}
 use Rattle.chi_lanes.specs.Masks.{Marks, bytes_at, is_blank}
@@ -30,15 +31,7 @@ first_none text none =
     let e : position_or_len is_blank text ≡ length text = position_or_len_is is_blank text (length text) 32 (omega arith) none (λ inside. absurd (omega (arith, inside))) in
     rw e (no_place (length text))
 
--- what a bit of a mask says
-pub clear_is : (b : Bool) → cond {A = ℕ} b 1 0 ≡ 0 → b ≡ false
-clear_is true e = absurd (omega (arith, e))
-clear_is false e = refl
-
-pub set_is : (b : Bool) → cond {A = ℕ} b 1 0 ≡ 1 → b ≡ true
-set_is true e = refl
-set_is false e = absurd (omega (arith, e))
-
+-- the mask of 64 bytes
 record IsMask (mask from : ℕ) (text : List ℕ) : Type 0 where
   room : from + 64 ≤ length text
   marks : Marks mask is_blank (bytes_at text from 64)

@@ -62,9 +62,6 @@ with_comma text low = slice_split_first is_comma text 0 low
 comma_is : (b : ℕ) → is_comma b ≡ true → b ≡ 44
 comma_is b e = grind (arith, nat_tests)
 
-nothing_behind : (texts : List (List ℕ)) (text word next : ℕ) (words : List ℕ) → AllWrite [] (next ∷ words) → ⊥
-nothing_behind texts text word next words is = is
-
 no_parts : (text : List ℕ) → parts_of text ≡ [] → ⊥
 no_parts text e =
     ⊎_elim (λ low. (let f = with_comma text low in cc (e, f))) (λ high. (let f = no_comma text high in cc (e, f))) (cases_lt (first text) (length text))

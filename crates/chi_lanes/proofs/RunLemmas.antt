@@ -1,5 +1,5 @@
 -- A run of digits among sixteen bytes, and the number that it writes.
-use Rattle.std.proofs.Common.{◌≡◌, ℕ, zero, suc, ◌+◌, ◌-◌, ◌*◌, ◌/◌, ◌%◌, ◌^◌, ◌<◌, ◌≤◌, nat_lt, List, [], ◌∷◌, ◌++◌, Bool, true, false, cond, length, get_or, take, drop, map, Option, Some, None, is_some, refl, sym, ap, subst, ◌∙◌, arith, shr-shr, w64, length-append, pow_mono}
+use Rattle.std.proofs.Common.{◌≡◌, ℕ, zero, suc, ◌+◌, ◌-◌, ◌*◌, ◌/◌, ◌%◌, ◌^◌, ◌<◌, ◌≤◌, nat_lt, List, [], ◌∷◌, ◌++◌, true, false, cond, length, get_or, take, drop, map, Option, Some, None, is_some, refl, sym, ap, subst, ◌∙◌, arith, shr-shr, w64, length-append, pow_mono}
 use Rattle.std.specs.Int.{trailing_ones}
 use Rattle.std.specs.Option.{unwrap_or}
 use Rattle.std.specs.Simd.Lanes.{mask_l}
@@ -12,6 +12,7 @@ use Rattle.std.proofs.lemmas.Nat.Bits.{bit_at-trailing_ones, same_from_bits}
 use Rattle.chi_lanes.specs.declared.digits.Digits.{Digits}
 use Rattle.chi_lanes.specs.Masks.{Marks, bytes_at}
 use Rattle.chi_lanes.proofs.Binds.{and_then}
+use Rattle.chi_lanes.proofs.BitLemmas.{clear_is, set_is}
 use Rattle.chi_lanes.specs.Numbers.{IsOf, digit_of, digits_after, is_digit, is_small, number_of, packed_after, packed_of, worth_of}
 
 -- a digit is worth less than 16, and any other byte is not
@@ -143,14 +144,6 @@ test_at bytes i j k low =
 
 worth_at : (bytes : List ℕ) (i j : ℕ) → bytes_at (map worth_of bytes) i j ≡ map worth_of (bytes_at bytes i j)
 worth_at bytes i j = ap (take j) (drop-map worth_of i bytes) ∙ take-map worth_of j (drop i bytes)
-
-set_is : (b : Bool) → cond {A = ℕ} b 1 0 ≡ 1 → b ≡ true
-set_is true e = refl
-set_is false e = absurd (omega (arith, e))
-
-clear_is : (b : Bool) → cond {A = ℕ} b 1 0 ≡ 0 → b ≡ false
-clear_is true e = absurd (omega (arith, e))
-clear_is false e = refl
 
 -- where the run of digits ends that begins at a place
 record IsRun (bytes : List ℕ) (from run : ℕ) : Type 0 where

@@ -8,7 +8,7 @@ abbrev pub has_bytes : List ℕ → Bool
 has_bytes [] = false
 has_bytes (b ∷ bs) = true
 
--- one blank or more stand between two columns
+-- what stands between blanks, one or more of them (`blank_words` of chi_trace)
 unfoldable pub columns_of : List ℕ → List (List ℕ)
 columns_of line = filter has_bytes (slice_split is_blank line)
 

@@ -7,11 +7,12 @@ abbrev pub up_to : ℕ → ℕ → Option ℕ
 up_to most n = if nat_le n most then Some n else None
 
 -- the number that begins with the digits of this one, and goes on with those of a text; none once it is above the most
+-- (`digits_from` of chi_trace)
 unfoldable pub digits_within : ℕ → ℕ → List ℕ → Option ℕ
 digits_within most n [] = Some n
 digits_within most n (d ∷ ds) = (digit_of d >>= λ v. up_to most (n * 16 + v)) >>= λ m. digits_within most m ds
 
--- the whole number is above the most just if it is once on the way
+-- digits read within a most write the whole number, if that isn't above the most
 abbrev pub WithinIsUpTo : Type 0
 WithinIsUpTo = (most n : ℕ) (ds : List ℕ) → n ≤ most → digits_within most n ds ≡ (digits_after n ds >>= up_to most)
 

@@ -14,7 +14,7 @@ AllWrite [] (word ∷ words) = ⊥
 AllWrite (text ∷ texts) [] = ⊥
 AllWrite (text ∷ texts) (word ∷ words) = Writes text word × AllWrite texts words
 
--- what stands between commas
+-- what stands between commas (`comma_parts` of chi_trace)
 abbrev pub parts_of : List ℕ → List (List ℕ)
 parts_of text = slice_split (λ b. b == 44) text
 

@@ -2,7 +2,7 @@
 use Rattle.std.specs.Prelude.{ℕ, ◌≡◌, ◌==◌, ◌||◌, Bool, false, List, map, take, drop, slice_index_or, if◌then◌else◌}
 use Rattle.std.specs.Int.{bit_at}
 
--- a space, a tab, or the carriage return before a line end
+-- a space, a tab, or the carriage return before a line end (`is_blank` of chi_trace)
 abbrev pub is_blank : ℕ → Bool
 is_blank b = (b == 32 || b == 9) || b == 13
 

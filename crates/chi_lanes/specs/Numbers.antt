@@ -4,7 +4,7 @@ use Rattle.std.specs.Option.{unwrap_or}
 use Rattle.chi_lanes.specs.Masks.{Marks}
 use Rattle.chi_lanes.specs.declared.digits.Digits.{Digits}
 
--- what a digit is worth, in letters of either case
+-- what a digit is worth, in letters of either case (`digit_of` of chi_trace)
 abbrev pub digit_of : ℕ → Option ℕ
 digit_of d =
     if nat_le 48 d && nat_le d 57 then Some (d - 48) else (
@@ -28,6 +28,15 @@ digits_after n (d ∷ ds) = digit_of d >>= λ v. digits_after (n * 16 + v) ds
 abbrev pub number_of : List ℕ → Option ℕ
 number_of [] = None
 number_of (d ∷ ds) = digits_after 0 (d ∷ ds)
+
+-- the same, of sixteen digits at most
+abbrev pub short_number : List ℕ → Option ℕ
+short_number text = if nat_le (length text) 16 then number_of text else None
+
+-- the number that the first of some texts writes
+abbrev pub first_number : List (List ℕ) → Option ℕ
+first_number [] = None
+first_number (text ∷ texts) = short_number text
 
 -- what a byte is worth as a digit, and 255 if it is none
 abbrev pub worth_of : ℕ → ℕ

@@ -1,16 +1,19 @@
 //! The columns of a line, by a mask of its blanks.
 
-ghost use Rattle.std.specs.Prelude.{◌≡◌, ◌≢◌, ◌+◌, ◌<◌, ◌≤◌, List, ℕ, [], ◌∷◌, drop, false, length, not, slice_get, slice_range, take};
-ghost use Rattle.std.specs.List.{position};
+ghost use Rattle.std.specs.Prelude.{◌≡◌, ◌+◌, ◌<◌, ◌≤◌, List, ℕ, drop, false, length, slice_get, slice_range, take};
 ghost use Rattle.chi_lanes.specs.Columns.{blank_at, columns_of};
-ghost use Rattle.chi_lanes.specs.Cursors.{HasEdges, IsCursor, IsEnd, IsPlace, IsStart};
-ghost use Rattle.chi_lanes.specs.Masks.{is_blank};
-ghost use Rattle.chi_lanes.specs.Numbers.{number_of};
+ghost use Rattle.chi_lanes.specs.Cursors.{IsCursor, IsPlace, IsWindow};
+ghost use Rattle.chi_lanes.specs.Numbers.{first_number, number_of, short_number};
 
-use crate::bits::{changes, lowest, without_lowest};
-use crate::digits::number_at;
-use crate::masks::{blanks, line_blanks};
+use crate::bits::changes;
+use crate::digits::{Digits, number_at};
+use crate::masks::line_blanks;
+use crate::places::{next_place, next_start};
 use std::marker::Model;
+
+/// Where the numbers of a line begin: behind a first column of three letters.
+/// Source: `docs/TRACES.md`, "Traces".
+const WINDOW: usize = 4;
 
 /// A column of a line: a text between blanks, of one byte or more.
 /// Source: `docs/TRACES.md`, "Traces".
@@ -74,6 +77,8 @@ pub struct Columns<'a> {
     at: usize,
     /// Where columns begin and end from there on, among the first 64 bytes; none once the next isn't among them.
     edges: u64,
+    /// The sixteen bytes from `WINDOW` on, where there are so many.
+    window: Digits,
 }
 
 impl<'a> Model for Columns<'a> {
@@ -81,7 +86,7 @@ impl<'a> Model for Columns<'a> {
 
     ghost view = { λ columns. columns_of (drop columns.at (take columns.size columns.bytes.now)) };
 
-    ghost invariant = { λ columns. IsCursor columns.bytes.now columns.size columns.at columns.edges };
+    ghost invariant = { λ columns. IsCursor columns.bytes.now columns.size columns.at columns.edges columns.window };
 }
 
 impl<'a> Columns<'a> {
@@ -98,6 +103,7 @@ impl<'a> Columns<'a> {
             size,
             at: 0,
             edges: changes(line_blanks(bytes, size)),
+            window: window_of(bytes),
         }
     }
 
@@ -108,33 +114,36 @@ impl<'a> Columns<'a> {
         ensures first { result ≡ slice_get self.old 0 }
         ensures rest { self.new ≡ drop 1 self.old }
     {
-        if self.edges != 0 {
-            let start = lowest(self.edges);
-            let behind = without_lowest(self.edges);
-            if behind != 0 {
-                let end = lowest(behind);
-                self.edges = without_lowest(behind);
-                self.at = end + 1;
-                return Some(Column {
+        match next_place(&self.bytes[..self.size], self.at, self.edges) {
+            None => None,
+            Some(next) => {
+                self.at = next.end + 1;
+                self.edges = next.edges;
+                Some(Column {
                     bytes: self.bytes,
-                    start,
-                    end,
-                });
+                    start: next.start,
+                    end: next.end,
+                })
             }
         }
-        let line = &self.bytes[..self.size];
-        let start = far_start(line, self.at);
-        if start == self.size {
-            return None;
+    }
+
+    /// The number that the next column writes, of up to sixteen hexadecimal digits; the column is taken, whatever it
+    /// is. `None` where one of its bytes is no digit, where it has more than sixteen, and where there is no other column.
+    /// Source: `docs/TRACES.md`, "Traces".
+    #[inline(always)]
+    pub fn next_number(&mut self) -> Option<u64>
+        ensures first { result ≡ first_number self.old }
+        ensures rest { self.new ≡ drop 1 self.old }
+    {
+        match next_place(&self.bytes[..self.size], self.at, self.edges) {
+            None => None,
+            Some(next) => {
+                self.at = next.end + 1;
+                self.edges = next.edges;
+                number_by(self.bytes, self.window, next.start, next.end)
+            }
         }
-        let end = far_end(line, start);
-        self.edges = 0;
-        self.at = end + 1;
-        Some(Column {
-            bytes: self.bytes,
-            start,
-            end,
-        })
     }
 
     /// The line from its next column on; nothing where there is no other.
@@ -149,98 +158,34 @@ impl<'a> Columns<'a> {
     }
 }
 
-/// Where the next column of a line begins, from a place on with these edges: the line's end where none does.
+/// The sixteen bytes from `WINDOW` on, where there are so many.
 #[inline(always)]
-fn next_start(line: &[u8], at: usize, edges: u64) -> usize
-    requires { edges ≢ 0 → HasEdges line.now at edges }
-    ensures { IsStart line.now at result }
+fn window_of(bytes: &[u8]) -> Digits
+    ensures { IsWindow result bytes.now }
 {
-    if edges != 0 {
-        lowest(edges)
+    if bytes.len() >= WINDOW + 16 {
+        Digits::at(bytes, WINDOW)
     } else {
-        far_start(line, at)
-    }
-}
-
-/// Where the next column of a line begins, from a place on: the line's end where none does.
-#[inline(never)]
-fn far_start(line: &[u8], at: usize) -> usize
-    ensures { IsStart line.now at result }
-{
-    match column_start(behind(line, at)) {
-        Some(start) => at + start,
-        None => line.len(),
-    }
-}
-
-/// What stands from a place on; nothing behind the end.
-#[inline(always)]
-fn behind(text: &[u8], at: usize) -> &[u8]
-    ensures { result.now ≡ drop at text.now }
-{
-    if at <= text.len() { &text[at..] } else { &[] }
-}
-
-/// Where the column ends that begins at a place.
-#[inline(never)]
-fn far_end(line: &[u8], start: usize) -> usize
-    requires { start ≤ length line.now }
-    ensures { IsEnd line.now start result }
-{
-    match first_blank(&line[start..]) {
-        Some(size) => start + size,
-        None => line.len(),
-    }
-}
-
-/// Where the first byte stands that is no blank.
-fn column_start(text: &[u8]) -> Option<usize>
-    ensures { result ≡ position (λ byte. not (is_blank byte)) text.now }
-{
-    text.iter().position(|byte| !is_blank(*byte))
-}
-
-/// Whether the byte parts columns.
-fn is_blank(byte: u8) -> bool
-    ensures { result ≡ is_blank byte }
-{
-    byte == b' ' || byte == b'\t' || byte == b'\r'
-}
-
-/// Where the first blank of a text stands.
-/// Source: `docs/TRACES.md`, "Traces".
-pub fn first_blank(text: &[u8]) -> Option<usize>
-    ensures { result ≡ position is_blank text.now }
-{
-    let mut at = 0;
-    while text.len() - at >= 64 {
-        let mask = blanks(text, at);
-        if mask != 0 {
-            return Some(at + lowest(mask));
+        Digits {
+            packed: 0,
+            marks: 0,
         }
-        at += 64;
     }
-    last_blank(text, at)
 }
 
-/// The first blank, where none stands before a place that has fewer than 64 bytes behind it.
+/// The number that a text writes, of up to sixteen digits, by the window if it is in there.
 #[inline(always)]
-fn last_blank(text: &[u8], at: usize) -> Option<usize>
-    requires within { at ≤ length text.now }
-    requires blocks { (0 < at) → 64 ≤ at }
-    requires few { length text.now < at + 64 }
-    requires none { (k : ℕ) → k < at → blank_at text.now k ≡ false }
-    ensures { result ≡ position is_blank text.now }
+fn number_by(bytes: &[u8], window: Digits, start: usize, end: usize) -> Option<u64>
+    requires some { start < end }
+    requires within { end ≤ length bytes.now }
+    requires known { IsWindow window bytes.now }
+    ensures { result ≡ short_number (slice_range bytes.now start end) }
 {
-    if at == 0 {
-        text.iter().position(|byte| is_blank(*byte))
+    if bytes.len() >= WINDOW + 16 && start >= WINDOW && end <= WINDOW + 16 {
+        window.number(start - WINDOW, end - WINDOW)
+    } else if end - start <= 16 {
+        number_at(bytes, start, end)
     } else {
-        let from = text.len() - 64;
-        let mask = blanks(text, from);
-        if mask == 0 {
-            None
-        } else {
-            Some(from + lowest(mask))
-        }
+        None
     }
 }

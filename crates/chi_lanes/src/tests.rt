@@ -1,9 +1,10 @@
 //! Each byte in each lane, and lines beside a plain walk.
 
-use crate::columns::{Columns, first_blank};
+use crate::columns::Columns;
 use crate::digits::sixteen;
 use crate::lists::eight_words;
 use crate::masks::{blanks, equal_to, line_blanks};
+use crate::places::first_blank;
 
 /// What a trace is made of, blanks more often than others, and bytes beside digits and blanks.
 const BYTES: [u8; 32] = *b"  \t\r 09afAF/:@G`gx,-_ R\x00\x80\xff\n  12\r";
@@ -87,8 +88,14 @@ fn written(text: &[u8]) -> Option<u64> {
     Some(number)
 }
 
+/// Whether the next column is this text, and what is left begins with it; and whether its number is the next one.
+fn is_next(columns: &mut Columns<'_>, numbers: &mut Columns<'_>, text: &[u8]) -> bool {
+    let number = if text.len() > 16 { None } else { written(text) };
+    numbers.next_number() == number && is_text(columns, text)
+}
+
 /// Whether the next column is this text, and what is left begins with it.
-fn is_next(columns: &mut Columns<'_>, text: &[u8]) -> bool {
+fn is_text(columns: &mut Columns<'_>, text: &[u8]) -> bool {
     let rest = columns.rest();
     match columns.next_column() {
         None => false,
@@ -106,19 +113,20 @@ fn is_walked(bytes: &[u8], size: usize) -> bool {
         return false;
     }
     let mut columns = Columns::of(bytes, size);
+    let mut numbers = Columns::of(bytes, size);
     let mut begun = 0;
     for at in 0..size {
         if parts(bytes[at]) {
-            if begun < at && !is_next(&mut columns, &bytes[begun..at]) {
+            if begun < at && !is_next(&mut columns, &mut numbers, &bytes[begun..at]) {
                 return false;
             }
             begun = at + 1;
         }
     }
-    if begun < size && !is_next(&mut columns, &bytes[begun..size]) {
+    if begun < size && !is_next(&mut columns, &mut numbers, &bytes[begun..size]) {
         return false;
     }
-    columns.rest().is_empty() && columns.next_column().is_none()
+    columns.rest().is_empty() && columns.next_column().is_none() && numbers.next_number().is_none()
 }
 
 /// Whether lines of this size are walked alike, as they are and with more behind them.

@@ -1,0 +1,9 @@
+-- So many bytes were written.
+use Rattle.std.proofs.Common.{map, take}
+use Rattle.std.specs.Fmt.{HasWritten, IsPlainFormatter}
+use Rattle.chi_log.specs.Shown.{shown_byte}
+use Rattle.chi_log.proofs.shown.ShownWordDisplay.fmt.Given as goal
+
+abbrev pub invariant-loop-byte : goal.invariant-loop-byte
+invariant-loop-byte g l =
+    IsPlainFormatter l.initial.f → HasWritten g.W.Write.write_str_gives l.initial.f (map shown_byte (take l.byte-index l.byte-items)) l.f

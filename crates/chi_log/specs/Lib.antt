@@ -1,0 +1,11 @@
+pub mod Rows
+pub mod Numbers
+pub mod Kinds
+pub mod Forms
+pub mod Beats
+pub mod Fields
+pub mod Seen
+pub mod Lines
+pub mod Shown
+pub mod Malformed
+pub mod Files
