@@ -1,9 +1,9 @@
 -- The ids of whole traces.
-use Rattle.std.proofs.Common.{◌≡◌, ℕ, ◌+◌, ◌%◌, ◌<◌, ◌==◌, ◌&&◌, ◌||◌, min, Bool, true, false, not, List, [], ◌∷◌, Option, Some, None, eqb, suc, zero, inl, inr, length, cond, arith, ap, refl, sym, ◌∙◌, bit_and}
+use Rattle.std.proofs.Common.{◌≡◌, ℕ, ◌+◌, ◌%◌, ◌<◌, ◌==◌, ◌&&◌, ◌||◌, min, max, Bool, true, false, not, List, [], ◌∷◌, Option, Some, None, eqb, suc, zero, inl, inr, length, cond, arith, ap, refl, sym, ◌∙◌, bit_and}
 use Rattle.std.specs.Prelude.{if◌then◌else◌}
 use Rattle.std.specs.Int.{bit_at}
 use Rattle.std.proofs.lemmas.Bool.{cases_Bool, eqb-true, ne_eqb}
-use Rattle.std.proofs.lemmas.Nat.Bits.{bit_at-lt, bit_at-zero, bit_at_and, bit_at_xor}
+use Rattle.std.proofs.lemmas.Nat.Bits.{bit_at-lt, bit_at-zero, bit_at_and, bit_at_or, bit_at_xor}
 use Rattle.chi_issue_b.specs.Flit.{dbid_of, line_of}
 use Rattle.chi_issue_b.specs.declared.flit.Flit.{Flit}
 use Rattle.chi_issue_b.specs.declared.ids.CacheLine.{CacheLine}
@@ -22,7 +22,7 @@ use Rattle.chi_transactions.specs.Flits.{buffer_of, number_at, role}
 use Rattle.chi_transactions.specs.History.{Event, IsAccepted, behind, came, came_from, comes_by, comes_in, expected, expected_from, left_at, opened_by, opened_if, buffer_parts, is_opened, names_id, IdsAreBalanced, PartsComeOnce}
 use Rattle.chi_transactions.specs.Ids.{number_of}
 use Rattle.chi_transactions.specs.Maps.{nothing, put}
-use Rattle.chi_transactions.specs.Parts.{has, is_among, is_empty, no_parts, parts_of, without}
+use Rattle.chi_transactions.specs.Parts.{both, either, has, is_among, is_empty, no_parts, parts_of, without}
 use Rattle.chi_transactions.specs.Rows.{brings, expects_of, names_buffer}
 use Rattle.chi_transactions.specs.Rule.{brought, found_by, id_refusal, is_before, is_in_use, is_last, is_left, is_of_home, is_of_line, is_opening, is_unfinished, left_behind, named_refusal, opened_buffer, or_else}
 use Rattle.chi_transactions.specs.State.{State}
@@ -43,6 +43,28 @@ among_without a b part =
     ap (λ x. x == 1) (bit_at_xor a.bits (bit_and a.bits b.bits) part)
     ∙ ap (λ y. (bit_at a.bits part + y) % 2 == 1) (bit_at_and a.bits b.bits part)
     ∙ without_bit (bit_at a.bits part) (bit_at b.bits part) (bit_at-lt a.bits part) (bit_at-lt b.bits part)
+
+either_bit : (x y : ℕ) → x < 2 → y < 2 → (max x y == 1) ≡ ((x == 1) || (y == 1))
+either_bit zero zero l m = refl
+either_bit zero (suc zero) l m = refl
+either_bit (suc zero) zero l m = refl
+either_bit (suc zero) (suc zero) l m = refl
+either_bit (suc (suc x)) y l m = absurd (omega arith)
+either_bit x (suc (suc y)) l m = absurd (omega arith)
+
+both_bit : (x y : ℕ) → x < 2 → y < 2 → (min x y == 1) ≡ ((x == 1) && (y == 1))
+both_bit zero zero l m = refl
+both_bit zero (suc zero) l m = refl
+both_bit (suc zero) zero l m = refl
+both_bit (suc zero) (suc zero) l m = refl
+both_bit (suc (suc x)) y l m = absurd (omega arith)
+both_bit x (suc (suc y)) l m = absurd (omega arith)
+
+pub among_either : (a b : Parts) (part : ℕ) → is_among (either a b) part ≡ (is_among a part || is_among b part)
+among_either a b part = ap (λ x. x == 1) (bit_at_or a.bits b.bits part) ∙ either_bit (bit_at a.bits part) (bit_at b.bits part) (bit_at-lt a.bits part) (bit_at-lt b.bits part)
+
+pub among_both : (a b : Parts) (part : ℕ) → is_among (both a b) part ≡ (is_among a part && is_among b part)
+among_both a b part = ap (λ x. x == 1) (bit_at_and a.bits b.bits part) ∙ both_bit (bit_at a.bits part) (bit_at b.bits part) (bit_at-lt a.bits part) (bit_at-lt b.bits part)
 
 among_none : (part : ℕ) → is_among no_parts part ≡ false
 among_none part = ap (λ x. x == 1) (bit_at-zero part)

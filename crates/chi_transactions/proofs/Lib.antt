@@ -1,6 +1,7 @@
 mod CreditLaws
 mod IdLaws
 mod Numbers
+mod RowLaws
 mod Slots
 mod StandLaws
 mod WaitLaws

@@ -1,6 +1,5 @@
 -- The requests that wait in whole traces.
-use Rattle.std.proofs.Common.{◌≡◌, ℕ, Bool, true, false, List, [], ◌∷◌, Option, Some, None, suc, length, ap, refl, ◌∙◌}
-use Rattle.std.specs.Prelude.{if◌then◌else◌}
+use Rattle.std.proofs.Common.{◌≡◌, ℕ, false, [], ◌∷◌, Option, Some, None, suc, length, ap, refl, ◌∙◌}
 use Rattle.chi_issue_b.specs.Flit.{line_of}
 use Rattle.chi_issue_b.specs.declared.flit.Flit.{Flit}
 use Rattle.chi_issue_b.specs.declared.ids.CacheLine.{CacheLine}
@@ -10,7 +9,7 @@ use Rattle.chi_transactions.specs.declared.entries.OpenId.{OpenId}
 use Rattle.chi_transactions.specs.declared.entries.Place.{Place}
 use Rattle.chi_transactions.specs.declared.entries.Waiting.{Waiting}
 use Rattle.chi_transactions.specs.Flits.{number_at, place_of, role}
-use Rattle.chi_transactions.specs.History.{Event, IsAccepted, RequestsWait, begun_waiting, behind, ended_at, waits, waits_by}
+use Rattle.chi_transactions.specs.History.{IsAccepted, RequestsWait, begun_waiting, behind, ended_at, waits, waits_by}
 use Rattle.chi_transactions.specs.Maps.{nothing, put_waiting}
 use Rattle.chi_transactions.specs.Rule.{found_by, is_before}
 use Rattle.chi_transactions.specs.State.{State}

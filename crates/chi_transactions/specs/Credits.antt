@@ -1,5 +1,5 @@
 -- Credits: of each home, requester and type what was retried (R), granted (G), sent again (S) and returned (B)
--- (docs/OBSERVER.md, "Ids and credits").
+-- (docs/TRANSACTIONS.md, "Credits").
 use Rattle.std.specs.Prelude.{ℕ, ◌+◌, ◌-◌, min, nat_lt, Bool, Option, unwrap_or}
 use Rattle.chi_transactions.specs.declared.credits.CreditEvent.{CreditEvent}
 use Rattle.chi_transactions.specs.declared.credits.CreditEvent.TheVariants.{Retried, Granted, Resent, Returned}

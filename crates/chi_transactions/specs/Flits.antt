@@ -1,4 +1,4 @@
--- Whose a flit is, and the id that it opens or names (docs/OBSERVER.md, "Ids and credits").
+-- Whose a flit is, and the id that it opens or names (docs/TRANSACTIONS.md, "Ids").
 use Rattle.std.specs.Prelude.{ℕ, unwrap_or}
 use Rattle.chi_issue_b.specs.Opcodes.{role_of}
 use Rattle.chi_issue_b.specs.declared.flit.Flit.{Flit}

@@ -1,4 +1,4 @@
--- Whole traces: what is kept behind a list of flits, and what the list says of it (docs/OBSERVER.md, "Ids and credits"). Lists are read
+-- Whole traces: what is kept behind a list of flits, and what the list says of it (docs/TRANSACTIONS.md, "What is proved"). Lists are read
 -- backwards: the latest flit is the first.
 use Rattle.std.specs.Prelude.{◌≡◌, ⊤, ℕ, suc, ◌+◌, ◌≤◌, ◌==◌, ◌&&◌, ◌||◌, not, min, Bool, true, false, List, [], ◌∷◌, Option, Some, None, length, if◌then◌else◌}
 use Rattle.chi_issue_b.specs.Flit.{dbid_of, line_of}
@@ -64,11 +64,14 @@ with_some (Some event) credits = with_event event credits
 
 unfoldable pub tally : List Event → ℕ → Credits
 tally [] account = no_credits
-tally (e ∷ past) account = if account_of e.flit == account then with_some (event_by (role e.flit) e.flit) (tally past account) else tally past account
+tally (e ∷ past) account =
+    if account_of e.flit == account then with_some (event_by (role e.flit) e.flit) (tally past account) else tally past account
 
 -- each of them is kept
 abbrev pub CreditsAreCounted : Type 0
-CreditsAreCounted = (options : Options) (flits : List Event) → IsAccepted options flits → (account : ℕ) → credits_at ((behind options flits).credits account) ≡ tally flits account
+CreditsAreCounted =
+    (options : Options) (flits : List Event) → IsAccepted options flits
+    → (account : ℕ) → credits_at ((behind options flits).credits account) ≡ tally flits account
 
 -- what is spent and returned was granted for a RetryAck, each credit once; and where grants don't come early, each was granted once
 -- for a RetryAck
@@ -76,11 +79,14 @@ abbrev pub IsCovered : Credits → Type 0
 IsCovered credits = credits.resent + credits.returned ≤ min credits.granted credits.retried
 
 abbrev pub CreditsAreSpentOnce : Type 0
-CreditsAreSpentOnce = (options : Options) (flits : List Event) → options.begins_in_middle ≡ false → IsAccepted options flits → (account : ℕ) → IsCovered (tally flits account)
+CreditsAreSpentOnce =
+    (options : Options) (flits : List Event) → options.begins_in_middle ≡ false → IsAccepted options flits
+    → (account : ℕ) → IsCovered (tally flits account)
 
 abbrev pub CreditsAreGrantedOnce : Type 0
 CreditsAreGrantedOnce =
-    (options : Options) (flits : List Event) → options.begins_in_middle ≡ false → options.early_grants ≡ false → IsAccepted options flits → (account : ℕ)
+    (options : Options) (flits : List Event) → options.begins_in_middle ≡ false → options.early_grants ≡ false
+    → IsAccepted options flits → (account : ℕ)
     → (tally flits account).granted ≤ (tally flits account).retried
 
 -- IDS. A part is the number of its bit
@@ -131,7 +137,8 @@ expected_from (Some parts) part before = is_among parts part
 
 unfoldable pub expected : Options → List Event → ℕ → ℕ → Bool
 expected options [] n part = false
-expected options (e ∷ past) n part = expected_from (opened_by (role e.flit) (behind options past) e.flit n) part (expected options past n part)
+expected options (e ∷ past) n part =
+    expected_from (opened_by (role e.flit) (behind options past) e.flit n) part (expected options past n part)
 
 -- what has come by it since
 abbrev pub came_from : Option Parts → Bool → Bool → Bool
@@ -140,7 +147,9 @@ came_from (Some parts) comes before = false
 
 unfoldable pub came : Options → List Event → ℕ → ℕ → Bool
 came options [] n part = false
-came options (e ∷ past) n part = came_from (opened_by (role e.flit) (behind options past) e.flit n) (comes_by (role e.flit) (behind options past) e.flit e.there n part) (came options past n part)
+came options (e ∷ past) n part =
+    came_from (opened_by (role e.flit) (behind options past) e.flit n)
+    (comes_by (role e.flit) (behind options past) e.flit e.there n part) (came options past n part)
 
 -- what is kept to be left of an id is what the last flit that opened it expects, but for what has come since
 abbrev pub IdsAreBalanced : Type 0
@@ -160,7 +169,8 @@ names_id naming = true
 
 abbrev pub PartsComeOnce : Type 0
 PartsComeOnce =
-    (options : Options) (e : Event) (past : List Event) → options.begins_in_middle ≡ false → IsAccepted options (e ∷ past) → names_id (role e.flit) ≡ true
+    (options : Options) (e : Event) (past : List Event) → options.begins_in_middle ≡ false → IsAccepted options (e ∷ past)
+    → names_id (role e.flit) ≡ true
     → (part : ℕ) → is_among (brings e.flit.opcode) part ≡ true
     → (expected options past (number_at e.flit) part ≡ true) × (came options past (number_at e.flit) part ≡ false)
 
@@ -192,7 +202,8 @@ own_stand f number n (Some line) = stand_if (number_at f == n) (record { line = 
 
 abbrev pub buffer_stand : State → Flit → ℕ → ℕ → Option OpenId → Option Stand
 buffer_stand s f number n None = None
-buffer_stand s f number n (Some id) = stand_if (is_opened f id (buffer_at s f) n (dbid_of f)) (record { line = id.line; home = id.home; of = id.of; since = number })
+buffer_stand s f number n (Some id) =
+    stand_if (is_opened f id (buffer_at s f) n (dbid_of f)) (record { line = id.line; home = id.home; of = id.of; since = number })
 
 abbrev pub stand_by : Role → State → Flit → ℕ → ℕ → Option Stand
 stand_by roles.Request s f number n = own_stand f number n (line_of f)
@@ -210,7 +221,8 @@ stands options (e ∷ past) n = or_stand (stand_by (role e.flit) (behind options
 
 abbrev pub IdsStandAsOpened : Type 0
 IdsStandAsOpened =
-    (options : Options) (flits : List Event) → options.begins_in_middle ≡ false → IsAccepted options flits → (n : ℕ) → stand_at ((behind options flits).ids n) ≡ stands options flits n
+    (options : Options) (flits : List Event) → options.begins_in_middle ≡ false → IsAccepted options flits
+    → (n : ℕ) → stand_at ((behind options flits).ids n) ≡ stands options flits n
 
 -- REQUESTS THAT WAIT: behind a RetryAck its requester waits at the line of the request that it names, for a credit of its home and its
 -- type, until it sends a request to that line again
@@ -233,4 +245,5 @@ waits options (e ∷ past) place = waits_by (role e.flit) (behind options past) 
 
 abbrev pub RequestsWait : Type 0
 RequestsWait =
-    (options : Options) (flits : List Event) → options.begins_in_middle ≡ false → IsAccepted options flits → (place : Place) → (behind options flits).waiting place ≡ waits options flits place
+    (options : Options) (flits : List Event) → options.begins_in_middle ≡ false → IsAccepted options flits
+    → (place : Place) → (behind options flits).waiting place ≡ waits options flits place

@@ -1,4 +1,4 @@
--- Ids, and the number of each (docs/OBSERVER.md, "Ids and credits").
+-- Ids, and the number of each (docs/TRANSACTIONS.md, "Ids").
 use Rattle.std.specs.Prelude.{ℕ, ◌+◌, ◌*◌, ◌/◌, ◌%◌, ◌==◌, if◌then◌else◌}
 use Rattle.chi_issue_b.specs.declared.ids.DbId.{DbId}
 use Rattle.chi_issue_b.specs.declared.ids.NodeId.{NodeId}
@@ -39,4 +39,5 @@ sort_in number = before_last (before_last (before_last number))
 unfoldable pub id_numbered : ℕ → Id
 id_numbered number =
     if sort_in number == 0 then Request (node_in number) (txn_in number) else
-    (if sort_in number == 1 then Snoop (node_in number) (home_in number) (txn_in number) else Buffer (node_in number) (home_in number) (dbid_in number))
+    (if sort_in number == 1 then Snoop (node_in number) (home_in number) (txn_in number) else
+    Buffer (node_in number) (home_in number) (dbid_in number))

@@ -1,4 +1,4 @@
--- What is said of ids and their numbers (docs/OBSERVER.md, "Ids and credits").
+-- What is said of ids and their numbers (docs/TRANSACTIONS.md, "Ids").
 use Rattle.std.specs.Prelude.{◌<◌, ℕ}
 use Rattle.chi_transactions.specs.declared.ids.Id.{Id}
 use Rattle.chi_transactions.specs.declared.ids.Id.TheVariants.{Request, Snoop, Buffer}

@@ -1,4 +1,4 @@
--- Sets of the parts of a transaction, a bit each (docs/OBSERVER.md, "Ids and credits").
+-- Sets of the parts of a transaction, a bit each (docs/TRANSACTIONS.md, "Ids").
 use Rattle.std.specs.Prelude.{ℕ, ◌==◌, Bool, bit_and, bit_or, bit_xor, not}
 use Rattle.std.specs.Int.{bit_at}
 use Rattle.chi_transactions.specs.declared.parts.Parts.{Parts}

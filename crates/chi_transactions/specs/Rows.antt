@@ -1,4 +1,4 @@
--- What each opcode expects and brings, by the rows of the code's tables (docs/OBSERVER.md, "Ids and credits").
+-- What each opcode expects and brings, by the rows of the code's tables (docs/TRANSACTIONS.md, "The rule").
 use Rattle.std.specs.Prelude.{ℕ, Bool, true, false, List, Option, Some, None, fold, if◌then◌else◌}
 use Rattle.std.specs.List.{slice_index_or}
 use denote.Enum.Declared.{tag_of}

@@ -1,4 +1,4 @@
--- The rule of ids: what a flit may bring, and what is left behind it (docs/OBSERVER.md, "Ids and credits").
+-- The rule of ids: what a flit may bring, and what is left behind it (docs/TRANSACTIONS.md, "The rule").
 use Rattle.std.specs.Prelude.{ℕ, ◌==◌, ◌&&◌, ◌||◌, Bool, true, false, not, bit_and, bit_or, Option, Some, None, if◌then◌else◌}
 use Rattle.std.specs.Option.{option_eq}
 use Rattle.chi_issue_b.specs.Flit.{dbid_of, line_of}
@@ -43,7 +43,16 @@ is_in_use (Some id) = is_used id
 
 -- an id from before the trace, of which anything may be left
 unfoldable pub before : Flit → OpenId
-before f = record { line = line_at 0; since = 0; home = home_of f; of = f.opcode; left = parts_of EVERY; follows = no_parts; retryable = true; begun = false }
+before f = record {
+  line = line_at 0;
+  since = 0;
+  home = home_of f;
+  of = f.opcode;
+  left = parts_of EVERY;
+  follows = no_parts;
+  retryable = true;
+  begun = false;
+}
 
 -- what the trace has of the id that a flit names: where it begins in the middle, one that no flit has named is from before
 abbrev pub found_by : Options → Flit → Option OpenId → Option OpenId
@@ -94,7 +103,8 @@ is_dbid None dbid = true
 is_dbid (Some first) dbid = option_eq dbids.eq-value.it (Some first) dbid
 
 unfoldable pub is_form : Flit → Begun → Bool
-is_form f begun = opcodes.eq-value.it begun.opcode f.opcode && (option_eq resps.eq-value.it begun.resp f.resp && is_dbid begun.dbid (dbid_of f))
+is_form f begun =
+    opcodes.eq-value.it begun.opcode f.opcode && (option_eq resps.eq-value.it begun.resp f.resp && is_dbid begun.dbid (dbid_of f))
 
 abbrev pub is_again : ℕ → Begun → Bool
 is_again there begun = not (bit_and begun.words there == 0)
@@ -167,4 +177,13 @@ begun_behind f there id None = record { opcode = f.opcode; resp = f.resp; dbid =
 begun_behind f there id (Some begun) = record begun { words = bit_or begun.words there }
 
 unfoldable pub opened_buffer : ℕ → OpenId → OpenId
-opened_buffer number id = record { line = id.line; since = number; home = id.home; of = id.of; left = id.follows; follows = no_parts; retryable = false; begun = false }
+opened_buffer number id = record {
+  line = id.line;
+  since = number;
+  home = id.home;
+  of = id.of;
+  left = id.follows;
+  follows = no_parts;
+  retryable = false;
+  begun = false;
+}

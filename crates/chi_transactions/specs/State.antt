@@ -1,4 +1,4 @@
--- What is kept of a trace (docs/OBSERVER.md, "Ids and credits").
+-- What is kept of a trace (docs/TRANSACTIONS.md, "Ids").
 use Rattle.std.specs.Prelude.{ℕ, Option}
 use Rattle.chi_transactions.specs.declared.entries.Begun.{Begun}
 use Rattle.chi_transactions.specs.declared.entries.Credits.{Credits}

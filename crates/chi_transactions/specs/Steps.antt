@@ -1,4 +1,4 @@
--- Each flit of a trace: why it isn't taken, and what is kept behind it (docs/OBSERVER.md, "Ids and credits").
+-- Each flit of a trace: why it isn't taken, and what is kept behind it (docs/TRANSACTIONS.md, "The rule").
 use Rattle.std.specs.Prelude.{◌≡◌, ⊤, ℕ, ◌+◌, ◌-◌, ◌==◌, ◌&&◌, Bool, true, false, not, Option, Some, None, is_none, Result, Ok, Err, unwrap_or, if◌then◌else◌}
 use Rattle.chi_issue_b.specs.Flit.{dbid_of, line_of}
 use Rattle.chi_issue_b.specs.declared.flit.Flit.{Flit}
@@ -40,10 +40,12 @@ abbrev pub is_attempt : Options → OpenId → Bool
 is_attempt options id = options.early_grants && (id.retryable && not (is_before id))
 
 unfoldable pub attempts_with : Options → (ℕ → Option ℕ) → Flit → Bool → ℕ → Option ℕ
-attempts_with options attempts f first = if options.early_grants && first then put attempts (pair_of f) (Some (counted attempts f + 1)) else attempts
+attempts_with options attempts f first =
+    if options.early_grants && first then put attempts (pair_of f) (Some (counted attempts f + 1)) else attempts
 
 unfoldable pub attempts_without : Options → (ℕ → Option ℕ) → Flit → OpenId → ℕ → Option ℕ
-attempts_without options attempts f id = if is_attempt options id then put attempts (pair_of f) (Some (counted attempts f - 1)) else attempts
+attempts_without options attempts f id =
+    if is_attempt options id then put attempts (pair_of f) (Some (counted attempts f - 1)) else attempts
 
 -- A FLIT THAT NAMES AN ID
 abbrev pub found : State → Flit → Option OpenId
@@ -142,7 +144,8 @@ unfoldable pub waiting_of : Flit → ℕ → OpenId → Waiting
 waiting_of f number id = record { home = id.home; credit = credit_of f; of = id.of; since = number }
 
 unfoldable pub waiting_with : (Place → Option Waiting) → Flit → ℕ → OpenId → Place → Option Waiting
-waiting_with waiting f number id = if is_before id then waiting else put_waiting waiting (place_of f id.line) (Some (waiting_of f number id))
+waiting_with waiting f number id =
+    if is_before id then waiting else put_waiting waiting (place_of f id.line) (Some (waiting_of f number id))
 
 abbrev pub booked : CreditEvent → (ℕ → Option Credits) → Flit → ℕ → Option Credits
 booked event credits f = put credits (account_of f) (Some (with_event event (credits_at (credits (account_of f)))))
@@ -315,4 +318,5 @@ IsTaken old new f there number result =
 
 -- nothing was seen yet
 abbrev pub nothing_kept : Options → State
-nothing_kept options = record { options = options; ids = nothing; waiting = nothing; credits = nothing; begun = nothing; attempts = nothing }
+nothing_kept options =
+    record { options = options; ids = nothing; waiting = nothing; credits = nothing; begun = nothing; attempts = nothing }

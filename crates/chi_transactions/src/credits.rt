@@ -34,7 +34,7 @@ pub(crate) fn credits_at(kept: Option<Credits>) -> Credits
 
 impl Credits {
     /// The credits that a RetryAck has promised, and that were granted, and neither spent nor returned.
-    /// Source: `docs/OBSERVER.md`, "Ids and credits".
+    /// Source: `docs/TRANSACTIONS.md`, "Credits".
     #[tactic(auto, unfolding(crate::specs::Credits::unused_of))]
     pub fn unused(&self) -> u64
         ensures { result ≡ unused_of self.now }

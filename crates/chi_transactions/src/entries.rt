@@ -4,7 +4,7 @@ use crate::parts::Parts;
 use chi_issue_b::{CacheLine, DbId, NodeId, Opcode, PcrdType, Resp};
 
 /// What is kept of an id. It has 24 bytes.
-/// Source: `docs/OBSERVER.md`, "Ids and credits".
+/// Source: `docs/TRANSACTIONS.md`, "Ids".
 #[derive(Clone, Copy, Debug, PartialEq, Eq)]
 pub struct OpenId {
     /// The cache line of its request or its snoop.
@@ -26,7 +26,7 @@ pub struct OpenId {
 }
 
 /// Data that come in beats, and lack words.
-/// Source: `docs/OBSERVER.md`, "Data in beats".
+/// Source: `docs/TRANSACTIONS.md`, "Data in beats".
 #[derive(Clone, Copy, Debug, PartialEq, Eq)]
 pub struct Begun {
     /// The opcode of the first beat.
@@ -40,7 +40,7 @@ pub struct Begun {
 }
 
 /// A request that was retried: what it waits for, to be sent again.
-/// Source: `docs/OBSERVER.md`, "Ids and credits".
+/// Source: `docs/TRANSACTIONS.md`, "Credits".
 #[derive(Clone, Copy, Debug, PartialEq, Eq)]
 pub struct Waiting {
     /// The home that retried it.
@@ -61,7 +61,7 @@ pub(crate) struct Place {
 }
 
 /// What the flits so far have shown of the credits of one type between a requester and a home.
-/// Source: `docs/OBSERVER.md`, "Ids and credits".
+/// Source: `docs/TRANSACTIONS.md`, "Credits".
 #[derive(Clone, Copy, Debug, PartialEq, Eq)]
 pub struct Credits {
     /// RetryAcks.
@@ -75,7 +75,7 @@ pub struct Credits {
 }
 
 /// Which types of credit a trace has.
-/// Source: `docs/OBSERVER.md`, "Ids and credits".
+/// Source: `docs/TRANSACTIONS.md`, "Credits".
 #[derive(Clone, Copy, Debug, PartialEq, Eq)]
 pub enum CreditTypes {
     /// Two: write data have one of their own.
@@ -87,7 +87,7 @@ pub enum CreditTypes {
 }
 
 /// What a trace is taken for.
-/// Source: `docs/OBSERVER.md`, "Ids and credits".
+/// Source: `docs/TRANSACTIONS.md`, "Credits".
 #[derive(Clone, Copy, Debug, PartialEq, Eq)]
 pub struct Options {
     /// Which types of credit it has.
@@ -99,7 +99,7 @@ pub struct Options {
 }
 
 /// Which part of its data a flit is.
-/// Source: `docs/OBSERVER.md`, "Data in beats".
+/// Source: `docs/TRANSACTIONS.md`, "Data in beats".
 #[derive(Clone, Copy, Debug, PartialEq, Eq)]
 pub enum Portion {
     /// All, or the flit has none.
@@ -113,7 +113,7 @@ pub enum Portion {
 }
 
 /// What a flit is of.
-/// Source: `docs/OBSERVER.md`, "Ids and credits".
+/// Source: `docs/TRANSACTIONS.md`, "The rule".
 #[derive(Clone, Copy, Debug, PartialEq, Eq)]
 pub struct Named {
     /// The cache line of the id that it opens or names.
@@ -127,7 +127,7 @@ pub struct Named {
 }
 
 /// What is told of a flit that is taken.
-/// Source: `docs/OBSERVER.md`, "Ids and credits".
+/// Source: `docs/TRANSACTIONS.md`, "The rule".
 #[derive(Clone, Copy, Debug, PartialEq, Eq)]
 pub enum Taken {
     /// It is of a cache line.
@@ -141,7 +141,7 @@ pub enum Taken {
 }
 
 /// Why a flit isn't taken: the first of these that is so.
-/// Source: `docs/OBSERVER.md`, "Ids and credits".
+/// Source: `docs/TRANSACTIONS.md`, "Reasons".
 #[derive(Clone, Copy, Debug, PartialEq, Eq)]
 pub enum Reason {
     /// A request or a snoop has no address.
@@ -177,7 +177,7 @@ pub enum Reason {
 }
 
 /// Why the ids of a trace didn't go on.
-/// Source: `docs/OBSERVER.md`, "Ids and credits".
+/// Source: `docs/TRANSACTIONS.md`, "Reasons".
 #[derive(Clone, Copy, Debug, PartialEq, Eq)]
 pub enum Stop {
     /// The flit isn't taken, and nothing has changed.

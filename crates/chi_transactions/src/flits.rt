@@ -17,7 +17,7 @@ pub(crate) fn role(flit: &Flit) -> Role
 }
 
 /// The requester that the flit is of: the node that sends requests, answers, CompAcks and write data, and that others go to.
-/// Source: `docs/OBSERVER.md`, "Ids and credits".
+/// Source: `docs/TRANSACTIONS.md`, "Ids".
 #[inline(always)]
 #[tactic(auto, unfolding(crate::specs::Flits::requester_of))]
 pub fn requester_of(flit: &Flit) -> NodeId
@@ -41,7 +41,7 @@ pub fn requester_of(flit: &Flit) -> NodeId
 }
 
 /// The home that the flit is of: the other node.
-/// Source: `docs/OBSERVER.md`, "Ids and credits".
+/// Source: `docs/TRANSACTIONS.md`, "Ids".
 #[inline(always)]
 #[tactic(auto, unfolding(crate::specs::Flits::home_of))]
 pub fn home_of(flit: &Flit) -> NodeId

@@ -6,7 +6,7 @@ ghost use Rattle.chi_transactions.specs.Ids.{id_numbered, last_field, number_of,
 use chi_issue_b::{DbId, NodeId, TxnId};
 
 /// An id: whose it is, and its TXN or its DBID.
-/// Source: `docs/OBSERVER.md`, "Ids and credits".
+/// Source: `docs/TRANSACTIONS.md`, "Ids".
 #[derive(Clone, Copy, Debug, PartialEq, Eq)]
 pub enum Id {
     /// The TXN of a request, which its requester chose.

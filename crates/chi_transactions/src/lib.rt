@@ -1,7 +1,7 @@
 //! The ids and credits of a trace of flits: what is outstanding behind the flits so far, which flits that allows, and of which
 //! cache line each flit is.
 //!
-//! Source: Arm IHI 0050 Issue B, chapter 2, as `docs/OBSERVER.md` reads it.
+//! Source: Arm IHI 0050 Issue B, chapter 2, as `docs/TRANSACTIONS.md` reads it.
 #![tactic(auto)]
 
 mod attempts;
@@ -28,7 +28,10 @@ pub use entries::{
 };
 pub use flits::{home_of, requester_of};
 pub use ids::Id;
-pub use laws::{credits_of_traces, id_numbers_differ, ids_of_traces, requests_of_traces};
+pub use laws::{
+    credits_of_traces, id_numbers_differ, ids_of_traces, parts_are_sets, requests_of_traces,
+    rows_are_of_their_opcodes,
+};
 pub use outstanding::Account;
 pub use parts::Parts;
 pub use transactions::Transactions;

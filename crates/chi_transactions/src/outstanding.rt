@@ -16,7 +16,7 @@ use chi_issue_b::{CacheLine, Flit, NodeId, PcrdType};
 use std::alloc::Allocator;
 
 /// Whose credits are counted together.
-/// Source: `docs/OBSERVER.md`, "Ids and credits".
+/// Source: `docs/TRANSACTIONS.md`, "Credits".
 #[derive(Clone, Copy, Debug, PartialEq, Eq)]
 pub struct Account {
     pub requester: NodeId,
@@ -26,7 +26,7 @@ pub struct Account {
 
 impl OpenId {
     /// Whether something has to come by it still; not of an id from before the trace.
-    /// Source: `docs/OBSERVER.md`, "Ids and credits".
+    /// Source: `docs/TRANSACTIONS.md`, "Credits".
     pub fn is_open(&self) -> bool
         ensures { result ≡ is_used self.now }
     {

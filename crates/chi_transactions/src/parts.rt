@@ -4,7 +4,7 @@ ghost use Rattle.std.specs.Prelude.{◌≡◌, ◌==◌};
 ghost use Rattle.chi_transactions.specs.Parts.{both, either, has, meets, without};
 
 /// A set of parts of a transaction: what is still to come by an id, or what a flit brings.
-/// Source: `docs/OBSERVER.md`, "Ids and credits".
+/// Source: `docs/TRANSACTIONS.md`, "Ids".
 #[derive(Clone, Copy, Debug, PartialEq, Eq)]
 pub struct Parts {
     /// One bit of each part.
@@ -35,7 +35,7 @@ impl Parts {
     pub(crate) const NONE: Parts = Parts { bits: 0 };
 
     /// Whether none is in it.
-    /// Source: `docs/OBSERVER.md`, "Ids and credits".
+    /// Source: `docs/TRANSACTIONS.md`, "Ids".
     pub fn is_empty(self) -> bool
         ensures { result ≡ (self.bits == 0) }
     {

@@ -12,7 +12,7 @@ use chi_issue_b::{Flit, Role};
 use std::alloc::{AllocError, Allocator};
 
 /// What is outstanding behind the flits of a trace so far.
-/// Source: `docs/OBSERVER.md`, "Ids and credits".
+/// Source: `docs/TRANSACTIONS.md`, "The rule".
 #[derive(Drop)]
 pub struct Transactions<A: Allocator> {
     pub(crate) options: Options,
@@ -33,7 +33,7 @@ impl From<AllocError> for Stop {
 
 impl<A: Allocator + Copy> Transactions<A> {
     /// Behind no flits: no id is open, and no credit is there.
-    /// Source: `docs/OBSERVER.md`, "Ids and credits".
+    /// Source: `docs/TRANSACTIONS.md`, "The rule".
     pub fn new(alloc: A, options: Options) -> Transactions<A>
         ensures { state_of result ≡ nothing_kept options }
     {
@@ -52,7 +52,7 @@ impl<A: Allocator> Transactions<A> {
     /// Takes the next flit of a trace, which has this number, counted from 1, and of its data the words of this mask: bit n of
     /// word n. `Ok` exactly where ids and credits allow it; it tells then what the flit is of. Else it is the first reason, and
     /// nothing changes.
-    /// Source: `docs/OBSERVER.md`, "Ids and credits".
+    /// Source: `docs/TRANSACTIONS.md`, "The rule".
     pub fn take(&mut self, flit: &Flit, there: u8, number: u64) -> Result<Taken, Stop>
         ensures { IsTaken (state_of self.old) (state_of self.new) flit.now there number result }
     {
