@@ -1,6 +1,6 @@
 -- The front of the queue is judged, and then what waits behind it.
 use Rattle.std.proofs.Common.{◌≡◌, ℕ, ◌+◌, ◌<◌, ◌≤◌, ◌^◌, Bool, true, false, List, [], ◌∷◌, length, refl, sym, ap, subst, ◌∙◌, arith}
-use Rattle.std.specs.Prelude.{◌&&◌, Option, Some, None, drop, if◌then◌else◌, slice_get}
+use Rattle.std.specs.Prelude.{◌&&◌, Some, None, if◌then◌else◌}
 use Rattle.chi_watch.specs.declared.held.HeldFlit.{HeldFlit}
 use Rattle.chi_watch.specs.declared.judge.Verdict.{Verdict}
 use Rattle.chi_watch.specs.declared.judge.Verdict.TheVariants as verdicts

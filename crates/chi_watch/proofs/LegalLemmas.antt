@@ -1,23 +1,18 @@
 -- What a line judges from a trace's beginning is what the observer of whole traces accepts.
 use Rattle.std.proofs.Common.{◌≡◌, ℕ, ◌<◌, Bool, true, false, List, [], ◌∷◌, refl, sym, ap, subst, ◌∙◌, arith}
 use Rattle.std.specs.Prelude.{◌&&◌, Option, Some, None, nat_lt}
-use Rattle.chi_observer.specs.declared.flits.CacheFlit.{CacheFlit}
-use Rattle.chi_observer.specs.declared.flits.HomeFlit.{HomeFlit}
 use Rattle.chi_copies.specs.Moments.{has_moment}
 use Rattle.chi_copies.specs.Observed.{takes, takes_home}
 use Rattle.chi_observer.specs.declared.flits.Flit.{Flit}
 use Rattle.chi_observer.specs.declared.flits.Flit.TheVariants.{Up, Down}
 use Rattle.chi_observer.specs.declared.flits.Stores.{Stores}
 use Rattle.chi_copies.specs.declared.line.Reason.{Reason}
-use Rattle.chi_copies.specs.Runs.{Accepted, Legal, LegalIsAccepted, AcceptedIsLegal, nothing_told, seen, shown_by}
-use Rattle.chi_copies.specs.Lines.{is_taken, is_taken_home}
+use Rattle.chi_copies.specs.Runs.{Accepted, LegalIsAccepted, AcceptedIsLegal, seen, shown_by}
 use Rattle.chi_watch.specs.declared.held.HeldFlit.{HeldFlit}
-use Rattle.chi_watch.specs.declared.judge.Start.TheVariants.{Empty}
-use Rattle.chi_watch.specs.declared.judge.Verdict.{Verdict}
 use Rattle.chi_watch.specs.declared.judge.Verdict.TheVariants as verdicts
 use Rattle.chi_watch.specs.declared.told.Told.{Told}
 use Rattle.chi_watch.specs.declared.told.Told.TheVariants as told
-use Rattle.chi_watch.specs.Judges.{Judged, flit_by, judged_after, line_after, line_refusal, opened, verdict, verdict_by}
+use Rattle.chi_watch.specs.Judges.{Judged, flit_by, judged_after, line_after, line_refusal, verdict, verdict_by}
 use Rattle.chi_watch.specs.Judges.Judged.{FromStart}
 use Rattle.chi_watch.specs.Logs.{AllJudged, AllRuled, JudgedIsLegal, LegalIsJudged, behind_told, is_ruled, trace_behind}
 use Rattle.chi_watch.proofs.NoRefusal.{cache_none, home_none}
@@ -76,6 +71,7 @@ module _ (strays : List ℕ) (z : Stores) where
   accepts_by es number rest (told.Flit e) go before is all =
       let none = none_holds (line_refusal (seen z es) (shown_by z es) e) is in
       go (e ∷ es) (accepted_next z es e before none) (subst (λ (j : Judged). AllJudged strays j rest) (after_is strays number z es e none) all)
+  accepts_by es number rest told.Nothing go before is all = go es before all
   accepts_by es number rest (told.Unjudged cause) go before is all = absurd (cc is)
   accepts_by es number rest told.OtherHome go before is all = absurd (cc is)
 
@@ -87,6 +83,7 @@ module _ (strays : List ℕ) (z : Stores) where
   earlier_by : (es : List Flit) (rest : List HeldFlit) (t : Told) → ((more : List Flit) → Accepted z (trace_behind more rest) → Accepted z more)
       → Accepted z (trace_behind (behind_told t es) rest) → Accepted z es
   earlier_by es rest (told.Flit e) go h = accepted_before z es e (go (e ∷ es) h)
+  earlier_by es rest told.Nothing go h = go es h
   earlier_by es rest (told.Unjudged cause) go h = go es h
   earlier_by es rest told.OtherHome go h = go es h
 
@@ -101,6 +98,7 @@ module _ (strays : List ℕ) (z : Stores) where
   judges_by es number rest (told.Flit e) ruled go h =
       let none = accepted_none z es e (earlier (e ∷ es) rest h) in
       (ap verdict_by none, subst (λ (j : Judged). AllJudged strays j rest) (sym (after_is strays number z es e none)) (go (e ∷ es) h))
+  judges_by es number rest told.Nothing ruled go h = (refl, go es h)
   judges_by es number rest (told.Unjudged cause) ruled go h = absurd (cc ruled)
   judges_by es number rest told.OtherHome ruled go h = absurd (cc ruled)
 

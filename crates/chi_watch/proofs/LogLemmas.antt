@@ -7,7 +7,7 @@ use Rattle.chi_watch.specs.declared.lines.Drained.{Drained}
 use Rattle.chi_watch.specs.Held.{awaits_by, has_room, is_whole, is_whole_by, joined, joined_in}
 use Rattle.chi_watch.specs.Judges.{Judged, judged_after, verdict}
 use Rattle.chi_watch.specs.Lines.{LineState, Outcome, arrived, behind, counted, crowded, drained, joined_line, nothing_done}
-use Rattle.chi_watch.specs.Logs.{HasRoom, Step, ToldInOrder, line_behind, log, told_all, waiting_rest, whole_front}
+use Rattle.chi_watch.specs.Logs.{ToldInOrder, log, told_all, waiting_rest, whole_front}
 use Rattle.chi_watch.specs.Logs.Step.{Arrives, Joins}
 
 -- what is told, and what waits then

@@ -1,6 +1,6 @@
 -- Of a flit that is taken no reason holds.
-use Rattle.std.proofs.Common.{◌≡◌, ℕ, Bool, true, false, refl, sym, ap, ◌∙◌}
-use Rattle.std.specs.Prelude.{◌&&◌, ◌||◌, not, nat_lt, Option, Some, None, if◌then◌else◌}
+use Rattle.std.proofs.Common.{◌≡◌, ℕ, Bool, true, false, refl, sym}
+use Rattle.std.specs.Prelude.{◌&&◌, ◌||◌, not, nat_lt, Option, None, if◌then◌else◌}
 use Rattle.chi_observer.specs.declared.flits.CacheFlit.{CacheFlit}
 use Rattle.chi_observer.specs.declared.flits.HomeFlit.{HomeFlit}
 use Rattle.chi_observer.specs.declared.flits.Flit.{Flit}
@@ -16,8 +16,7 @@ use Rattle.chi_copies.specs.Observed.{Observed, any_of, fits_home, goes, takes, 
 use Rattle.chi_copies.specs.Lines.{is_taken, is_taken_home}
 use Rattle.chi_copies.specs.Refusals.{copy_refusal, due_refusal, home_refusal, refusal, refused_if}
 use Rattle.chi_copies.specs.Begun.{Begun, apart_given, apart_sent, counts, has_its_moment, is_left_over, is_shown, others_begun, others_sent, sent_begun, stand_beside, takes_begun, takes_given, takes_sent}
-use Rattle.chi_copies.specs.BegunLines.{may_send}
-use Rattle.chi_copies.specs.BegunRefusals.{begun_refusal, given_refusal, order_refusal, rule_refusal, sent_refusal}
+use Rattle.chi_copies.specs.BegunRefusals.{begun_refusal, given_refusal, order_refusal, sent_refusal}
 
 no : {A : Type 0} → false ≡ true → A
 no {A} h = absurd (cc h)

@@ -1,6 +1,6 @@
 -- A flit of which no reason holds is taken.
-use Rattle.std.proofs.Common.{◌≡◌, ℕ, Bool, true, false, refl, sym}
-use Rattle.std.specs.Prelude.{◌&&◌, ◌||◌, not, nat_lt, Option, Some, None}
+use Rattle.std.proofs.Common.{◌≡◌, ℕ, Bool, true, false, refl}
+use Rattle.std.specs.Prelude.{◌&&◌, ◌||◌, not, nat_lt, Option, None}
 use Rattle.chi_observer.specs.declared.flits.CacheFlit.{CacheFlit}
 use Rattle.chi_observer.specs.declared.flits.HomeFlit.{HomeFlit}
 use Rattle.chi_observer.specs.Rules.{is_busy, is_due, needs_duty, needs_overwriter, needs_quiet}
@@ -10,7 +10,7 @@ use Rattle.chi_copies.specs.Rules.{fills, shows}
 use Rattle.chi_copies.specs.Worlds.{all_below, home_may, is_overwritten}
 use Rattle.chi_copies.specs.Moments.{has_moment}
 use Rattle.chi_copies.specs.Observed.{Observed, any_of, fits_home, goes, takes, takes_home}
-use Rattle.chi_copies.specs.Refusals.{copy_refusal, due_refusal, home_refusal, refusal, refused_if}
+use Rattle.chi_copies.specs.Refusals.{home_refusal, refusal, refused_if}
 
 -- a row that isn't so, and those behind it
 off : (b : Bool) (reason : Reason) (rest : Option Reason) → refused_if b reason rest ≡ None → b ≡ false

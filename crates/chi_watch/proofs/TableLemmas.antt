@@ -1,5 +1,5 @@
 -- The table of lines behind one line of it.
-use Rattle.std.proofs.Common.{◌≡◌, ◌==◌, ℕ, Bool, true, false, cond, List, refl, sym, ap, subst, ◌∙◌}
+use Rattle.std.proofs.Common.{◌≡◌, ℕ, Bool, true, false, cond, List, refl, sym, ap, ◌∙◌}
 use Rattle.std.specs.Prelude.{Option, Some, None, Ok, if◌then◌else◌, nat_eq, option_map, unwrap_or}
 use Rattle.std.specs.Map.{lookup}
 use Rattle.chi_issue_b.specs.declared.ids.CacheLine.{CacheLine}
@@ -8,7 +8,7 @@ use Rattle.chi_watch.specs.declared.held.HeldFlit.{HeldFlit}
 use Rattle.chi_watch.specs.declared.lines.Before.{Before}
 use Rattle.chi_watch.specs.declared.lines.Drained.{Drained}
 use Rattle.chi_watch.specs.declared.lines.LineSeen.{LineSeen}
-use Rattle.chi_watch.specs.Lines.{IsArrived, IsDone, IsHeard, LineState, LinesState, Outcome, behind, heard_line, line_state, lines_by, lines_in, opened_line, put_line, state_at}
+use Rattle.chi_watch.specs.Lines.{IsArrived, IsDone, IsHeard, LineState, Outcome, behind, heard_line, line_state, lines_by, lines_in, opened_line, put_line, state_at}
 
 module _ {A : Type 0} where
   -- the lines of a table in which one was written

@@ -1,6 +1,6 @@
 -- A line whose trace begins in the middle judges each flit of a tail.
-use Rattle.std.proofs.Common.{◌≡◌, ℕ, zero, suc, Bool, true, false, List, [], ◌∷◌, ◌++◌, refl, sym, ap, subst, ◌∙◌}
-use Rattle.std.specs.Prelude.{Option, Some, None, if◌then◌else◌, nat_lt}
+use Rattle.std.proofs.Common.{◌≡◌, ℕ, zero, suc, Bool, true, false, List, [], ◌∷◌, ◌++◌, refl, sym, ap, subst}
+use Rattle.std.specs.Prelude.{Option, None, if◌then◌else◌, nat_lt}
 use Rattle.std.specs.List.{slice_index_or}
 use Rattle.chi_observer.specs.declared.flits.Flit.{Flit}
 use Rattle.chi_observer.specs.declared.flits.Flit.TheVariants.{Up, Down}
@@ -15,7 +15,7 @@ use Rattle.chi_watch.specs.declared.held.HeldFlit.{HeldFlit}
 use Rattle.chi_watch.specs.declared.judge.Verdict.TheVariants as verdicts
 use Rattle.chi_watch.specs.declared.told.Told.{Told}
 use Rattle.chi_watch.specs.declared.told.Told.TheVariants as told
-use Rattle.chi_watch.specs.Judges.{Judged, flit_by, judged_after, verdict, verdict_by, wake, woken, woken_below}
+use Rattle.chi_watch.specs.Judges.{Judged, flit_by, judged_after, verdict, verdict_by, woken, woken_below}
 use Rattle.chi_watch.specs.Judges.Judged.{FromMiddle}
 use Rattle.chi_watch.specs.Logs.{AllJudged, AllRuled, TailIsJudged, behind_told, is_ruled, trace_behind}
 use Rattle.chi_watch.proofs.NoRefusal.{begun_none}
@@ -50,6 +50,7 @@ module _ (z : Stores) (before : List Flit) where
   earlier_by : (es : List Flit) (rest : List HeldFlit) (t : Told) → ((more : List Flit) → Legal z (trace_behind more rest ++ before) → Legal z (more ++ before))
       → Legal z (trace_behind (behind_told t es) rest ++ before) → Legal z (es ++ before)
   earlier_by es rest (told.Flit e) go h = legal_before z e (es ++ before) (go (e ∷ es) h)
+  earlier_by es rest told.Nothing go h = go es h
   earlier_by es rest (told.Unjudged cause) go h = go es h
   earlier_by es rest told.OtherHome go h = go es h
 
@@ -66,7 +67,7 @@ taken_next law z es e b so_far tail =
 
 module _ (law : TailsAreTaken) (strays : List ℕ) (z : Stores) where
   judges_by : (es : List Flit) (b : Begun) (last : ℕ) (number : ℕ) (rest : List HeldFlit) (t : Told) → is_ruled t ≡ true
-      → ((more : List Flit) (next : Begun) → Calls z more next → IsTail z (trace_behind more rest) → AllJudged strays (FromMiddle next number) rest)
+      → ((more : List Flit) (next : Begun) (after : ℕ) → Calls z more next → IsTail z (trace_behind more rest) → AllJudged strays (FromMiddle next after) rest)
       → Calls z es b → IsTail z (trace_behind (behind_told t es) rest)
       → (verdict strays (FromMiddle b last) t ≡ verdicts.Judged) × AllJudged strays (judged_after strays number (FromMiddle b last) t) rest
   judges_by es b last number rest (told.Flit e) ruled go so_far tail =
@@ -77,15 +78,16 @@ module _ (law : TailsAreTaken) (strays : List ℕ) (z : Stores) where
       let after : FromMiddle next number ≡ judged_after strays number (FromMiddle b last) (told.Flit e) = sym (ap (λ (r : Option Reason). flit_by r number (FromMiddle next number)) none) in (
         ap verdict_by none,
         subst (λ (j : Judged). AllJudged strays j rest) after
-            (go (e ∷ es) next (record { calls = Taken e ∷ here.calls; is = ap (λ (w : Begun). begun_after w e) here.is; flits = ap (λ (trace : List Flit). e ∷ trace) here.flits; may = here.may }) tail),
+            (go (e ∷ es) next number (record { calls = Taken e ∷ here.calls; is = ap (λ (w : Begun). begun_after w e) here.is; flits = ap (λ (trace : List Flit). e ∷ trace) here.flits; may = here.may }) tail),
       )
+  judges_by es b last number rest told.Nothing ruled go so_far tail = (refl, go es b last so_far tail)
   judges_by es b last number rest (told.Unjudged cause) ruled go so_far tail = absurd (cc ruled)
   judges_by es b last number rest told.OtherHome ruled go so_far tail = absurd (cc ruled)
 
   judges_all : (es : List Flit) (b : Begun) (last : ℕ) (flits : List HeldFlit) → AllRuled flits → Calls z es b → IsTail z (trace_behind es flits) → AllJudged strays (FromMiddle b last) flits
   judges_all es b last [] ruled so_far tail = tt
   judges_all es b last (flit ∷ rest) ruled so_far tail =
-      judges_by es b last flit.number rest flit.told ruled.0 (λ more next. judges_all more next flit.number rest ruled.1) so_far tail
+      judges_by es b last flit.number rest flit.told ruled.0 (λ more next after. judges_all more next after rest ruled.1) so_far tail
 
 pub tail_is_judged : TailsAreTaken → TailIsJudged
 tail_is_judged law strays z number flits ruled tail =

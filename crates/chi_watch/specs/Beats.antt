@@ -1,4 +1,4 @@
--- The words that a later beat of data brings (docs/OBSERVER.md, "Data in beats").
+-- The words that a later beat of data brings (docs/WATCH.md, "Data in beats").
 use Rattle.std.specs.Prelude.{ℕ, List, [], ◌∷◌, unwrap_or}
 use Rattle.std.specs.List.{slice_index_or}
 use Rattle.chi_issue_b.specs.declared.beat.Beat.{Beat}

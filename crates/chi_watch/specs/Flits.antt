@@ -1,5 +1,5 @@
--- What a flit of Issue B is to the rules of a line, by the rows of the code's tables (docs/OBSERVER.md, "A trace of many lines").
-use Rattle.std.specs.Prelude.{ℕ, ◌==◌, ◌&&◌, Bool, true, false, List, Option, Some, None, if◌then◌else◌, is_none}
+-- What a flit of Issue B is to the rules of a line, by the rows of the code's tables (docs/WATCH.md, "What a line is told").
+use Rattle.std.specs.Prelude.{ℕ, ◌==◌, ◌&&◌, Bool, true, false, List, Option, Some, None, if◌then◌else◌, is_none, not}
 use Rattle.std.specs.List.{find, slice_index_or}
 use Rattle.std.specs.Option.{option_map}
 use denote.Enum.Declared.{tag_of}
@@ -26,6 +26,8 @@ use Rattle.chi_observer.specs.declared.kinds.Kind.{Kind}
 use Rattle.chi_observer.specs.declared.kinds.Snoop.{Snoop}
 use Rattle.chi_watch.specs.declared.flits.Meaning.{Meaning}
 use Rattle.chi_watch.specs.declared.flits.Meaning.TheVariants.{Sent, Given}
+use Rattle.chi_watch.specs.declared.flits.Meaning.TheVariants as silent
+use Rattle.chi_issue_b.specs.declared.opcodes.ResponseOpcode.TheVariants.{CompAck}
 use Rattle.chi_watch.specs.declared.flits.TheConstants.{REQUESTS, SNOOPS, RESPONSES, DATA_FLITS}
 use Rattle.chi_watch.specs.declared.told.Cause.TheVariants as causes
 use Rattle.chi_watch.specs.declared.told.Told.{Told}
@@ -33,7 +35,12 @@ use Rattle.chi_watch.specs.declared.told.Told.TheVariants as told
 
 -- THE TABLES. Requests and snoops stand at the places of their opcodes
 abbrev pub kind_of : RequestOpcode → Option Kind
-kind_of opcode = (slice_index_or REQUESTS (tag_of requests.the_type opcode) (ReqLCrdReturn, None)).1
+kind_of opcode = (slice_index_or REQUESTS (tag_of requests.the_type opcode) (ReqLCrdReturn, None, false)).1
+
+-- its CompAck ends what it does to copies; that of a ReadOnce or a WriteUniqueFull tells nothing of them
+abbrev pub is_acknowledged : Opcode → Bool
+is_acknowledged (Req opcode) = (slice_index_or REQUESTS (tag_of requests.the_type opcode) (ReqLCrdReturn, None, false)).2
+is_acknowledged other = true
 
 abbrev pub snoop_of : SnoopOpcode → Option Snoop
 snoop_of opcode = (slice_index_or SNOOPS (tag_of snoops.the_type opcode) (SnpLCrdReturn, None)).1
@@ -50,7 +57,7 @@ is_response_row opcode resp row = tag_of responses.the_type row.0 == tag_of resp
 abbrev pub is_data_row : DataOpcode → Option Resp → DataOpcode × Option Resp × Meaning → Bool
 is_data_row opcode resp row = tag_of datas.the_type row.0 == tag_of datas.the_type opcode && fits_resp row.1 resp
 
--- WHAT A FLIT IS, if the tables have it
+-- WHAT A FLIT IS, if the tables have it, in a transaction whose request or snoop has an opcode
 abbrev pub asked : Bool → Kind → Meaning
 asked allows_retry kind = if allows_retry then Sent (Request kind) else Sent (Resend kind)
 
@@ -60,25 +67,33 @@ request_meaning opcode allows_retry = option_map (asked allows_retry) (kind_of o
 abbrev pub snoop_meaning : SnoopOpcode → Option Meaning
 snoop_meaning opcode = option_map (λ snoop. Given (grants.Snp snoop)) (snoop_of opcode)
 
-abbrev pub response_meaning : ResponseOpcode → Option Resp → Option Meaning
-response_meaning opcode resp = option_map (λ row. row.2) (find (is_response_row opcode resp) RESPONSES)
+abbrev pub is_comp_ack : ResponseOpcode → Bool
+is_comp_ack CompAck = true
+is_comp_ack other = false
+
+abbrev pub response_row : ResponseOpcode → Option Resp → Option Meaning
+response_row opcode resp = option_map (λ row. row.2) (find (is_response_row opcode resp) RESPONSES)
+
+abbrev pub response_meaning : ResponseOpcode → Option Resp → Opcode → Option Meaning
+response_meaning opcode resp of = if is_comp_ack opcode && not (is_acknowledged of) then Some silent.Nothing else response_row opcode resp
 
 abbrev pub data_meaning : DataOpcode → Option Resp → Option Meaning
 data_meaning opcode resp = option_map (λ row. row.2) (find (is_data_row opcode resp) DATA_FLITS)
 
-abbrev pub meaning_by : Opcode → AnyFlit → Option Meaning
-meaning_by (Req opcode) flit = request_meaning opcode (is_none flit.credit)
-meaning_by (Snp opcode) flit = snoop_meaning opcode
-meaning_by (Rsp opcode) flit = response_meaning opcode flit.resp
-meaning_by (Dat opcode) flit = data_meaning opcode flit.resp
+abbrev pub meaning_by : Opcode → AnyFlit → Opcode → Option Meaning
+meaning_by (Req opcode) flit of = request_meaning opcode (is_none flit.credit)
+meaning_by (Snp opcode) flit of = snoop_meaning opcode
+meaning_by (Rsp opcode) flit of = response_meaning opcode flit.resp of
+meaning_by (Dat opcode) flit of = data_meaning opcode flit.resp
 
-abbrev pub meaning_of : AnyFlit → Option Meaning
-meaning_of flit = meaning_by flit.opcode flit
+abbrev pub meaning_of : AnyFlit → Opcode → Option Meaning
+meaning_of flit of = meaning_by flit.opcode flit of
 
 -- WHAT A LINE IS TOLD OF, with the flit's words; what has no row isn't judged, nor what is of no agent
 abbrev pub told_by : Meaning → Agent → List ℕ → Told
 told_by (Sent act) agent words = told.Flit (Up (record { agent = agent; act = act; shown = words }))
 told_by (Given grant) agent words = told.Flit (Down (record { agent = agent; grant = grant; shown = words }))
+told_by silent.Nothing agent words = told.Nothing
 
 abbrev pub told_from : Meaning → Option Agent → List ℕ → Told
 told_from meaning None words = told.Unjudged causes.Node
@@ -88,5 +103,5 @@ abbrev pub told_as : Option Meaning → AnyFlit → Option Agent → List ℕ �
 told_as None flit agent words = told.Unjudged (causes.Opcode flit.opcode)
 told_as (Some meaning) flit agent words = told_from meaning agent words
 
-abbrev pub told_of : AnyFlit → Option Agent → List ℕ → Told
-told_of flit agent words = told_as (meaning_of flit) flit agent words
+abbrev pub told_of : AnyFlit → Opcode → Option Agent → List ℕ → Told
+told_of flit of agent words = told_as (meaning_of flit of) flit agent words

@@ -1,4 +1,4 @@
--- The flits of a cache line that wait for words of data (docs/OBSERVER.md, "Data in beats").
+-- The flits of a cache line that wait for words of data (docs/WATCH.md, "Data in beats").
 use Rattle.std.specs.Prelude.{◌≡◌, ℕ, ◌==◌, zero, suc, Bool, true, false, List, [], ◌∷◌, ◌++◌, Option, Some, None, Result, Ok, Err, if◌then◌else◌, length, nat_lt}
 use Rattle.chi_issue_b.specs.declared.beat.Beat.{Beat}
 use Rattle.chi_watch.specs.declared.held.Held.{Held}
@@ -29,7 +29,8 @@ awaits id held = awaits_by id held.awaits
 
 -- a flit behind a later beat of its data, with the number of that
 abbrev pub joined : Beat → ℕ → Bool → HeldFlit → HeldFlit
-joined beat number is_last held = record { told = told_with held.told beat; is_access = held.is_access; awaits = if is_last then None else held.awaits; number = held.number; last = number }
+joined beat number is_last held =
+    record held { told = told_with held.told beat; awaits = if is_last then None else held.awaits; last = number }
 
 -- THE QUEUE
 abbrev pub is_none_held : List HeldFlit → Bool

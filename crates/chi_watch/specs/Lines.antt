@@ -1,5 +1,5 @@
--- The cache lines of a trace: what comes of a flit, and of the beats of its data (docs/OBSERVER.md, "A trace of many lines").
-use Rattle.std.specs.Prelude.{◌≡◌, ℕ, ◌+◌, ◌==◌, Bool, true, false, List, [], ◌∷◌, ◌++◌, Option, Some, None, Result, Ok, Err, if◌then◌else◌, length, nat_eq, option_and_then, option_map, replicate, slice_set, unwrap_or}
+-- The cache lines of a trace: what comes of a flit, and of the beats of its data (docs/WATCH.md, "What a line is told").
+use Rattle.std.specs.Prelude.{◌≡◌, ℕ, ◌+◌, ◌==◌, Bool, List, [], ◌∷◌, ◌++◌, Option, Some, None, Result, Ok, Err, if◌then◌else◌, length, nat_eq, option_and_then, option_map, replicate, slice_set, unwrap_or}
 use Rattle.std.specs.Option.{option_map_or}
 use Rattle.std.specs.Map.{lookup}
 use denote.Ref.{Bor}
@@ -11,7 +11,6 @@ use Rattle.chi_issue_b.specs.declared.ids.CacheLine.{CacheLine}
 use Rattle.chi_issue_b.specs.declared.ids.NodeId.{NodeId}
 use Rattle.chi_watch.specs.declared.held.HeldFlit.{HeldFlit}
 use Rattle.chi_copies.specs.declared.line.Reason.TheVariants.{NotSent}
-use Rattle.chi_watch.specs.declared.judge.LineReason.{LineReason}
 use Rattle.chi_watch.specs.declared.judge.LineReason.TheVariants.{Rule}
 use Rattle.chi_watch.specs.declared.judge.Start.TheVariants.{Empty, Unknown}
 use Rattle.chi_watch.specs.declared.judge.Start.{Start}
@@ -24,7 +23,6 @@ use Rattle.chi_watch.specs.declared.lines.Tally.{Tally}
 use Rattle.chi_watch.specs.declared.lines.Before.{Before}
 use Rattle.chi_watch.specs.declared.lines.Lines.{Lines}
 use Rattle.chi_watch.specs.declared.judge.Unjudged.{Unjudged}
-use Rattle.chi_watch.specs.declared.told.Told.{Told}
 use Rattle.chi_watch.specs.declared.told.Told.TheVariants as told
 use Rattle.chi_watch.specs.Held.{has_room, held_in, is_whole, joined_in}
 use Rattle.chi_watch.specs.declared.held.Held.{Held}
@@ -83,7 +81,8 @@ outcome_of judge held done = record { told = judged judge; held = held_in held; 
 abbrev pub drained : List ℕ → Judged → List HeldFlit → Drained → Outcome
 drained strays judge [] done = record { told = judge; held = []; done = done }
 drained strays judge (flit ∷ rest) done =
-    if is_whole flit then drained strays (judged_after strays flit.number judge flit.told) rest (counted (verdict strays judge flit.told) flit done)
+    if is_whole flit
+    then drained strays (judged_after strays flit.number judge flit.told) rest (counted (verdict strays judge flit.told) flit done)
     else record { told = judge; held = flit ∷ rest; done = done }
 
 -- A FLIT that is whole, or is the first beat of its data: it waits behind the others, and what can be is judged. Where as many wait as
@@ -93,14 +92,19 @@ passed [] done = done
 passed (flit ∷ rest) done = passed rest (counted verdicts.Unjudged flit done)
 
 abbrev pub crowded : LineState → HeldFlit → Outcome
-crowded s flit = record { told = crowded_by flit.number s.told; held = []; done = passed s.held (counted verdicts.Unjudged flit nothing_done) }
+crowded s flit =
+    record { told = crowded_by flit.number s.told; held = []; done = passed s.held (counted verdicts.Unjudged flit nothing_done) }
 
 abbrev pub arrived : List ℕ → LineState → HeldFlit → Outcome
 arrived strays s flit = if has_room s.held then drained strays s.told (s.held ++ flit ∷ []) nothing_done else crowded s flit
 
 -- where none waits for it, nor it for words, it is judged at once
 abbrev pub at_once : List ℕ → LineState → HeldFlit → Outcome
-at_once strays s flit = record { told = judged_after strays flit.number s.told flit.told; held = s.held; done = counted (verdict strays s.told flit.told) flit nothing_done }
+at_once strays s flit = record {
+  told = judged_after strays flit.number s.told flit.told;
+  held = s.held;
+  done = counted (verdict strays s.told flit.told) flit nothing_done;
+}
 
 -- one of another home than the line's stands there as a fault
 abbrev pub heard : NodeId → NodeId → HeldFlit → HeldFlit

@@ -1,4 +1,4 @@
--- What a line's judge is told: the line's flits in the order of their first beats, each with all its words (docs/OBSERVER.md, "Data in
+-- What a line's judge is told: the line's flits in the order of their first beats, each with all its words (docs/WATCH.md, "Data in
 -- beats").
 use Rattle.std.specs.Prelude.{◌≡◌, ⊤, ℕ, Bool, true, false, List, [], ◌∷◌, ◌++◌, if◌then◌else◌}
 use Rattle.chi_issue_b.specs.declared.beat.Beat.{Beat}
@@ -58,12 +58,14 @@ HasRoom (Joins id beat number is_last ∷ steps) = HasRoom steps
 -- the others wait
 abbrev pub ToldInOrder : Type 0
 ToldInOrder = (strays : List ℕ) (s : LineState) (steps : List Step) → s.held ≡ [] → HasRoom steps
-    → line_behind strays s steps ≡ record { home = s.home; told = told_all strays s.told (whole_front (log steps)); held = waiting_rest (log steps) }
+    → line_behind strays s steps
+    ≡ record { home = s.home; told = told_all strays s.told (whole_front (log steps)); held = waiting_rest (log steps) }
 
 -- WHAT A LINE JUDGES, from a trace's beginning: each of these is judged, one after the other
 abbrev pub AllJudged : List ℕ → Judged → List HeldFlit → Type 0
 AllJudged strays judge [] = ⊤
-AllJudged strays judge (flit ∷ rest) = (verdict strays judge flit.told ≡ verdicts.Judged) × AllJudged strays (judged_after strays flit.number judge flit.told) rest
+AllJudged strays judge (flit ∷ rest) =
+    (verdict strays judge flit.told ≡ verdicts.Judged) × AllJudged strays (judged_after strays flit.number judge flit.told) rest
 
 -- the flits that they are to the rules of a line, latest first, behind earlier ones
 abbrev pub behind_told : Told → List Flit → List Flit
@@ -77,6 +79,7 @@ trace_behind trace (flit ∷ rest) = trace_behind (behind_told flit.told trace) 
 -- all of them are some
 abbrev pub is_ruled : Told → Bool
 is_ruled (told.Flit flit) = true
+is_ruled told.Nothing = true
 is_ruled other = false
 
 abbrev pub AllRuled : List HeldFlit → Type 0
@@ -85,12 +88,15 @@ AllRuled (flit ∷ rest) = (is_ruled flit.told ≡ true) × AllRuled rest
 
 -- a line that judges all that it is told was told a legal trace; and all that a legal trace tells is judged
 abbrev pub JudgedIsLegal : Type 0
-JudgedIsLegal = (strays : List ℕ) (z : Stores) (number : ℕ) (flits : List HeldFlit) → AllJudged strays (opened Empty z number) flits → Legal z (trace_behind [] flits)
+JudgedIsLegal = (strays : List ℕ) (z : Stores) (number : ℕ) (flits : List HeldFlit)
+    → AllJudged strays (opened Empty z number) flits → Legal z (trace_behind [] flits)
 
 abbrev pub LegalIsJudged : Type 0
-LegalIsJudged = (strays : List ℕ) (z : Stores) (number : ℕ) (flits : List HeldFlit) → AllRuled flits → Legal z (trace_behind [] flits) → AllJudged strays (opened Empty z number) flits
+LegalIsJudged = (strays : List ℕ) (z : Stores) (number : ℕ) (flits : List HeldFlit)
+    → AllRuled flits → Legal z (trace_behind [] flits) → AllJudged strays (opened Empty z number) flits
 
 -- and one whose trace begins in the middle judges all that a tail tells, whatever was before, and whichever flits from before the trace
 -- may have been of it besides
 abbrev pub TailIsJudged : Type 0
-TailIsJudged = (strays : List ℕ) (z : Stores) (number : ℕ) (flits : List HeldFlit) → AllRuled flits → IsTail z (trace_behind [] flits) → AllJudged strays (opened Unknown z number) flits
+TailIsJudged = (strays : List ℕ) (z : Stores) (number : ℕ) (flits : List HeldFlit)
+    → AllRuled flits → IsTail z (trace_behind [] flits) → AllJudged strays (opened Unknown z number) flits

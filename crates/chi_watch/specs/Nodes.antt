@@ -1,5 +1,5 @@
--- The nodes of a trace: its requesters, in the order of their first flits, and its homes (docs/OBSERVER.md, "A trace of many lines").
-use Rattle.std.specs.Prelude.{◌≡◌, ℕ, ◌==◌, Bool, true, false, List, [], ◌∷◌, ◌++◌, Option, Some, None, if◌then◌else◌, is_none, length, nat_eq, nat_lt}
+-- The nodes of a trace: its requesters, in the order of their first flits, and its homes (docs/WATCH.md, "Nodes").
+use Rattle.std.specs.Prelude.{ℕ, ◌==◌, Bool, true, false, List, [], ◌∷◌, ◌++◌, Option, Some, None, if◌then◌else◌, is_none, length, nat_eq, nat_lt}
 use Rattle.std.specs.Map.{lookup}
 use Rattle.chi_flit.specs.declared.numbers.Agent.{Agent}
 use Rattle.chi_issue_b.specs.declared.ids.NodeId.{NodeId}

@@ -1,15 +1,14 @@
--- A trace of flits, judged: its ids and credits, and each flit at its place in its cache line (docs/OBSERVER.md, "A trace of many
--- lines").
-use Rattle.std.specs.Prelude.{◌≡◌, ℕ, Bool, true, false, List, Option, Some, None, Result, Ok, Err, replicate}
+-- A trace of flits, judged: its ids and credits, and each flit at its place in its cache line (docs/WATCH.md, "What a line is
+-- told").
+use Rattle.std.specs.Prelude.{◌≡◌, ℕ, Bool, true, false, Option, Some, None, Result, Ok, Err, replicate}
 use Rattle.chi_flit.specs.declared.numbers.Agent.{Agent}
 use Rattle.chi_issue_b.specs.declared.beat.Beat.{Beat}
 use Rattle.chi_issue_b.specs.declared.flit.Flit.{Flit}
 use Rattle.chi_issue_b.specs.declared.ids.CacheLine.{CacheLine}
 use Rattle.chi_issue_b.specs.declared.ids.NodeId.{NodeId}
+use Rattle.chi_issue_b.specs.declared.opcodes.Opcode.{Opcode}
 use Rattle.chi_observer.specs.declared.flits.Act.{Act}
 use Rattle.chi_observer.specs.declared.flits.Flit.TheVariants.{Up}
-use Rattle.chi_observer.specs.declared.flits.Stores.{Stores}
-use Rattle.chi_transactions.specs.declared.entries.CreditTypes.{CreditTypes}
 use Rattle.chi_transactions.specs.declared.entries.Named.{Named}
 use Rattle.chi_transactions.specs.declared.entries.Options.{Options}
 use Rattle.chi_transactions.specs.declared.entries.Portion.{Portion}
@@ -18,7 +17,7 @@ use Rattle.chi_transactions.specs.declared.entries.Stop.TheVariants.{Refused}
 use Rattle.chi_transactions.specs.declared.entries.Taken.{Taken}
 use Rattle.chi_transactions.specs.declared.entries.Taken.TheVariants.{Of, Before, Credit, Nothing}
 use Rattle.chi_transactions.specs.Flits.{home_of, requester_of}
-use Rattle.chi_transactions.specs.State.{State, state_of}
+use Rattle.chi_transactions.specs.State.{state_of}
 use Rattle.chi_transactions.specs.Steps.{IsTaken, nothing_kept}
 use Rattle.chi_watch.specs.declared.held.HeldFlit.{HeldFlit}
 use Rattle.chi_watch.specs.declared.judge.Start.{Start}
@@ -63,12 +62,13 @@ agent_in s flit = agent_of s (requester_of flit) (home_of flit)
 abbrev pub known_by_flit : Flit → Nodes → Nodes
 known_by_flit flit s = known (requester_of flit) (home_of flit) s
 
-abbrev pub held_of : Nodes → Flit → Beat → Option ℕ → ℕ → HeldFlit
-held_of s flit beat awaited number = record { told = told_of flit (agent_in s flit) beat.words; is_access = false; awaits = awaited; number = number; last = number }
+abbrev pub held_of : Nodes → Opcode → Flit → Beat → Option ℕ → ℕ → HeldFlit
+held_of s of flit beat awaited number =
+    record { told = told_of flit of (agent_in s flit) beat.words; is_access = false; awaits = awaited; number = number; last = number }
 
-pub record IsComing (old new : Parts) (line : CacheLine) (flit : Flit) (beat : Beat) (awaited : Option ℕ) (number : ℕ) (done : Drained) : Type 0 where
+pub record IsComing (old new : Parts) (named : Named) (flit : Flit) (beat : Beat) (awaited : Option ℕ) (number : ℕ) (done : Drained) : Type 0 where
   pub nodes : new.nodes ≡ known_by_flit flit old.nodes
-  pub lines : IsArrived old.lines new.lines line (home_of flit) (held_of old.nodes flit beat awaited number) (Ok done)
+  pub lines : IsArrived old.lines new.lines named.line (home_of flit) (held_of old.nodes named.of flit beat awaited number) (Ok done)
 
 -- a later beat
 pub record IsGoingOn (old new : Parts) (named : Named) (beat : Beat) (number : ℕ) (is_last : Bool) (done : Drained) : Type 0 where
@@ -88,8 +88,8 @@ pub record IsOfNone (old new : Parts) (done : Drained) : Type 0 where
 
 -- so by what it is of
 abbrev pub IsToldOf : Portion → (old new : Parts) → Named → Flit → Beat → ℕ → Drained → Type 0
-IsToldOf Whole old new named flit beat number done = IsComing old new named.line flit beat None number done
-IsToldOf First old new named flit beat number done = IsComing old new named.line flit beat (Some named.since) number done
+IsToldOf Whole old new named flit beat number done = IsComing old new named flit beat None number done
+IsToldOf First old new named flit beat number done = IsComing old new named flit beat (Some named.since) number done
 IsToldOf Further old new named flit beat number done = IsGoingOn old new named beat number false done
 IsToldOf Last old new named flit beat number done = IsGoingOn old new named beat number true done
 

@@ -59,6 +59,7 @@ pub(crate) fn told_with(told: &Told, beat: &Beat) -> Told
 {
     match told {
         Told::Flit(flit) => Told::Flit(flit_with(flit, beat)),
+        Told::Nothing => Told::Nothing,
         Told::Unjudged(cause) => Told::Unjudged(*cause),
         Told::OtherHome => Told::OtherHome,
     }

@@ -3,7 +3,7 @@
 ghost use Rattle.std.specs.Prelude.{◌≡◌, ◌&&◌};
 ghost use Rattle.std.specs.List.{find};
 ghost use Rattle.std.specs.Option.{option_map};
-ghost use Rattle.chi_watch.specs.Flits.{data_meaning, fits_resp, is_data_row, is_response_row, meaning_of, request_meaning, response_meaning, snoop_meaning, told_by, told_of};
+ghost use Rattle.chi_watch.specs.Flits.{data_meaning, fits_resp, is_acknowledged, is_data_row, is_response_row, meaning_of, request_meaning, response_meaning, response_row, snoop_meaning, told_by, told_of};
 
 use crate::told::{Cause, Told};
 use chi_flit::{Agent, Data, State};
@@ -17,6 +17,8 @@ pub(crate) enum Meaning {
     Sent(Act),
     /// The home does.
     Given(Grant),
+    /// A part of a transaction that tells nothing of copies.
+    Nothing,
 }
 
 /// The opcode of a response without data, its RESP where the flit has one that counts, and what that is.
@@ -25,44 +27,44 @@ pub(crate) type ResponseRow = (ResponseOpcode, Option<Resp>, Meaning);
 /// The opcode of data, their RESP, and what that is.
 pub(crate) type DataRow = (DataOpcode, Option<Resp>, Meaning);
 
-/// The kind of each request that the rules have. In the order of [`RequestOpcode`].
+/// The kind of each request that the rules have, and whether its CompAck ends what it does to copies. In the order of [`RequestOpcode`].
 #[rattlefmt::skip]
-pub(crate) static REQUESTS: [(RequestOpcode, Option<Kind>); 35] = [
-    (RequestOpcode::ReqLCrdReturn,        None),
-    (RequestOpcode::ReadShared,           Some(Kind::ReadShared)),
-    (RequestOpcode::ReadClean,            Some(Kind::ReadClean)),
-    (RequestOpcode::ReadOnce,             Some(Kind::ReadOnce)),
-    (RequestOpcode::ReadNoSnp,            None),
-    (RequestOpcode::PCrdReturn,           None),
-    (RequestOpcode::ReadUnique,           Some(Kind::ReadUnique)),
-    (RequestOpcode::CleanShared,          Some(Kind::CleanShared)),
-    (RequestOpcode::CleanInvalid,         Some(Kind::CleanInvalid)),
-    (RequestOpcode::MakeInvalid,          Some(Kind::MakeInvalid)),
-    (RequestOpcode::CleanUnique,          Some(Kind::CleanUnique)),
-    (RequestOpcode::MakeUnique,           Some(Kind::MakeUnique)),
-    (RequestOpcode::Evict,                Some(Kind::Evict)),
-    (RequestOpcode::DVMOp,                None),
-    (RequestOpcode::WriteEvictFull,       Some(Kind::WriteEvictFull)),
-    (RequestOpcode::WriteCleanFull,       Some(Kind::WriteCleanFull)),
-    (RequestOpcode::WriteUniquePtl,       None),
-    (RequestOpcode::WriteUniqueFull,      Some(Kind::WriteUniqueFull)),
-    (RequestOpcode::WriteBackPtl,         None),
-    (RequestOpcode::WriteBackFull,        Some(Kind::WriteBackFull)),
-    (RequestOpcode::WriteNoSnpPtl,        None),
-    (RequestOpcode::WriteNoSnpFull,       None),
-    (RequestOpcode::WriteUniqueFullStash, None),
-    (RequestOpcode::WriteUniquePtlStash,  None),
-    (RequestOpcode::StashOnceShared,      None),
-    (RequestOpcode::StashOnceUnique,      None),
-    (RequestOpcode::ReadOnceCleanInvalid, None),
-    (RequestOpcode::ReadOnceMakeInvalid,  None),
-    (RequestOpcode::ReadNotSharedDirty,   Some(Kind::ReadNotSharedDirty)),
-    (RequestOpcode::CleanSharedPersist,   None),
-    (RequestOpcode::AtomicStore,          None),
-    (RequestOpcode::AtomicLoad,           None),
-    (RequestOpcode::AtomicSwap,           None),
-    (RequestOpcode::AtomicCompare,        None),
-    (RequestOpcode::PrefetchTgt,          None),
+pub(crate) static REQUESTS: [(RequestOpcode, Option<Kind>, bool); 35] = [
+    (RequestOpcode::ReqLCrdReturn,        None,                          false),
+    (RequestOpcode::ReadShared,           Some(Kind::ReadShared),        true),
+    (RequestOpcode::ReadClean,            Some(Kind::ReadClean),         true),
+    (RequestOpcode::ReadOnce,             Some(Kind::ReadOnce),          false),
+    (RequestOpcode::ReadNoSnp,            None,                          false),
+    (RequestOpcode::PCrdReturn,           None,                          false),
+    (RequestOpcode::ReadUnique,           Some(Kind::ReadUnique),        true),
+    (RequestOpcode::CleanShared,          Some(Kind::CleanShared),       false),
+    (RequestOpcode::CleanInvalid,         Some(Kind::CleanInvalid),      false),
+    (RequestOpcode::MakeInvalid,          Some(Kind::MakeInvalid),       false),
+    (RequestOpcode::CleanUnique,          Some(Kind::CleanUnique),       true),
+    (RequestOpcode::MakeUnique,           Some(Kind::MakeUnique),        true),
+    (RequestOpcode::Evict,                Some(Kind::Evict),             false),
+    (RequestOpcode::DVMOp,                None,                          false),
+    (RequestOpcode::WriteEvictFull,       Some(Kind::WriteEvictFull),    false),
+    (RequestOpcode::WriteCleanFull,       Some(Kind::WriteCleanFull),    false),
+    (RequestOpcode::WriteUniquePtl,       None,                          false),
+    (RequestOpcode::WriteUniqueFull,      Some(Kind::WriteUniqueFull),   false),
+    (RequestOpcode::WriteBackPtl,         None,                          false),
+    (RequestOpcode::WriteBackFull,        Some(Kind::WriteBackFull),     false),
+    (RequestOpcode::WriteNoSnpPtl,        None,                          false),
+    (RequestOpcode::WriteNoSnpFull,       None,                          false),
+    (RequestOpcode::WriteUniqueFullStash, None,                          false),
+    (RequestOpcode::WriteUniquePtlStash,  None,                          false),
+    (RequestOpcode::StashOnceShared,      None,                          false),
+    (RequestOpcode::StashOnceUnique,      None,                          false),
+    (RequestOpcode::ReadOnceCleanInvalid, None,                          false),
+    (RequestOpcode::ReadOnceMakeInvalid,  None,                          false),
+    (RequestOpcode::ReadNotSharedDirty,   Some(Kind::ReadNotSharedDirty),true),
+    (RequestOpcode::CleanSharedPersist,   None,                          false),
+    (RequestOpcode::AtomicStore,          None,                          false),
+    (RequestOpcode::AtomicLoad,           None,                          false),
+    (RequestOpcode::AtomicSwap,           None,                          false),
+    (RequestOpcode::AtomicCompare,        None,                          false),
+    (RequestOpcode::PrefetchTgt,          None,                          false),
 ];
 
 /// Each snoop that the rules have. In the order of [`SnoopOpcode`].
@@ -91,7 +93,7 @@ pub(crate) static SNOOPS: [(SnoopOpcode, Option<Snoop>); 19] = [
 
 /// The responses without data that the rules have.
 #[rattlefmt::skip]
-pub(crate) static RESPONSES: [ResponseRow; 9] = [
+pub(crate) static RESPONSES: [ResponseRow; 10] = [
     (ResponseOpcode::CompAck,      None,           Meaning::Sent(Act::CompAck)),
     (ResponseOpcode::SnpResp,      Some(Resp::I),  Meaning::Sent(Act::SnpResp(Answer::SnpRespI))),
     (ResponseOpcode::SnpResp,      Some(Resp::SC), Meaning::Sent(Act::SnpResp(Answer::SnpRespSC))),
@@ -101,6 +103,7 @@ pub(crate) static RESPONSES: [ResponseRow; 9] = [
     (ResponseOpcode::Comp,         Some(Resp::SC), Meaning::Given(Grant::CompSC)),
     (ResponseOpcode::Comp,         Some(Resp::I),  Meaning::Given(Grant::CompI)),
     (ResponseOpcode::RetryAck,     None,           Meaning::Given(Grant::RetryAck)),
+    (ResponseOpcode::ReadReceipt,  None,           Meaning::Nothing),
 ];
 
 /// The data that the rules have.
@@ -166,9 +169,29 @@ fn is_response_row(row: &ResponseRow, opcode: ResponseOpcode, resp: Option<Resp>
     row.0 as u8 == opcode as u8 && fits
 }
 
-/// What a response is.
-fn response_meaning(opcode: ResponseOpcode, resp: Option<Resp>) -> Option<Meaning>
-    ensures { result ≡ response_meaning opcode resp }
+/// Whether the CompAck of a request or a snoop of this opcode ends what that does to copies.
+fn is_acknowledged(of: Opcode) -> bool
+    ensures { result ≡ is_acknowledged of }
+{
+    match of {
+        Opcode::Req(opcode) => REQUESTS[opcode as usize].2,
+        Opcode::Snp(_) | Opcode::Rsp(_) | Opcode::Dat(_) => true,
+    }
+}
+
+/// What a response is, to a request or a snoop of this opcode.
+fn response_meaning(opcode: ResponseOpcode, resp: Option<Resp>, of: Opcode) -> Option<Meaning>
+    ensures { result ≡ response_meaning opcode resp of }
+{
+    if matches!(opcode, ResponseOpcode::CompAck) && !is_acknowledged(of) {
+        return Some(Meaning::Nothing);
+    }
+    response_row(opcode, resp)
+}
+
+/// What a response is by its row.
+fn response_row(opcode: ResponseOpcode, resp: Option<Resp>) -> Option<Meaning>
+    ensures { result ≡ response_row opcode resp }
 {
     let row = RESPONSES
         .iter()
@@ -194,14 +217,14 @@ fn data_meaning(opcode: DataOpcode, resp: Option<Resp>) -> Option<Meaning>
     Some(row.2)
 }
 
-/// What a flit is; `None` where the rules have no row for its opcode and RESP.
-fn meaning_of(flit: &chi_issue_b::Flit) -> Option<Meaning>
-    ensures { result ≡ meaning_of flit.now }
+/// What a flit of a transaction of this opcode is; `None` where the rules have no row for its opcode and RESP.
+fn meaning_of(flit: &chi_issue_b::Flit, of: Opcode) -> Option<Meaning>
+    ensures { result ≡ meaning_of flit.now of }
 {
     match flit.opcode {
         Opcode::Req(opcode) => request_meaning(opcode, flit.allows_retry()),
         Opcode::Snp(opcode) => snoop_meaning(opcode),
-        Opcode::Rsp(opcode) => response_meaning(opcode, flit.resp),
+        Opcode::Rsp(opcode) => response_meaning(opcode, flit.resp, of),
         Opcode::Dat(opcode) => data_meaning(opcode, flit.resp),
     }
 }
@@ -221,15 +244,17 @@ fn told_by(meaning: Meaning, agent: Agent, words: &Data) -> Told
             grant,
             shown: *words,
         })),
+        Meaning::Nothing => Told::Nothing,
     }
 }
 
-/// What a line is told of by a flit with these words, of the agent that its requester is, if it is one.
-/// Source: `docs/OBSERVER.md`, "A trace of many lines".
-pub fn told_of(flit: &chi_issue_b::Flit, agent: Option<Agent>, words: &Data) -> Told
-    ensures { result ≡ told_of flit.now agent words.now }
+/// What a line is told of by a flit with these words: of a transaction whose request or snoop has this opcode, and of the agent that its
+/// requester is, if it is one.
+/// Source: `docs/WATCH.md`, "What a line is told".
+pub fn told_of(flit: &chi_issue_b::Flit, of: Opcode, agent: Option<Agent>, words: &Data) -> Told
+    ensures { result ≡ told_of flit.now of agent words.now }
 {
-    let Some(meaning) = meaning_of(flit) else {
+    let Some(meaning) = meaning_of(flit, of) else {
         return Told::Unjudged(Cause::Opcode(flit.opcode));
     };
     match agent {

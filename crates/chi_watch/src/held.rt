@@ -11,11 +11,11 @@ use std::alloc::{AllocFailed, Allocator};
 use std::collections::VecDeque;
 
 /// How many flits of a line may wait.
-/// Source: `docs/OBSERVER.md`, "Data in beats".
+/// Source: `docs/WATCH.md`, "Data in beats".
 pub const ROOM: usize = 64;
 
 /// A flit of a cache line that waits.
-/// Source: `docs/OBSERVER.md`, "Data in beats".
+/// Source: `docs/WATCH.md`, "Data in beats".
 #[derive(Clone, Copy, Debug, PartialEq, Eq)]
 pub struct HeldFlit {
     /// What the line is to be told of, with the words that have come.
@@ -73,7 +73,7 @@ pub enum HeldStop {
 
 /// The flits of a line that wait, in the order of their first beats: the first one for its own words, and each behind it for
 /// its own or for those of another before it.
-/// Source: `docs/OBSERVER.md`, "Data in beats".
+/// Source: `docs/WATCH.md`, "Data in beats".
 #[derive(Drop)]
 pub struct Held<A: Allocator> {
     waiting: VecDeque<HeldFlit, A>,

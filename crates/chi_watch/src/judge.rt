@@ -16,7 +16,7 @@ use chi_observer::{CacheFlit, Flit, HomeFlit, Stores};
 use std::alloc::{AllocError, Allocator};
 
 /// What was before a trace's first flit.
-/// Source: `docs/OBSERVER.md`, "What is printed".
+/// Source: `docs/WATCH.md`, "What isn't judged".
 #[derive(Clone, Copy, Debug, PartialEq, Eq)]
 pub enum Start {
     /// No cache has a copy, and no request is open.
@@ -26,29 +26,29 @@ pub enum Start {
 }
 
 /// Why a flit of a cache line is a fault.
-/// Source: `docs/OBSERVER.md`, "Why a flit isn't taken".
+/// Source: `docs/WATCH.md`, "What isn't judged".
 #[derive(Clone, Copy, Debug, PartialEq, Eq)]
 pub enum LineReason {
-    /// It breaks this rule of its line.
+    /// A rule of the line, which this is the name of, is broken.
     Rule(Reason),
-    /// It is of another home than the line's first flit.
+    /// The flit is of another home than the line's first one.
     OtherHome,
 }
 
 /// What comes of a flit that a line is told of.
-/// Source: `docs/OBSERVER.md`, "What isn't judged".
+/// Source: `docs/WATCH.md`, "What isn't judged".
 #[derive(Clone, Copy, Debug, PartialEq, Eq)]
 pub enum Verdict {
     /// The line's judge has taken it.
     Judged,
-    /// It isn't judged.
+    /// Nothing judges it.
     Unjudged,
-    /// It is a fault.
+    /// A fault, for this reason.
     Fault(LineReason),
 }
 
 /// Why a line isn't judged, and since when.
-/// Source: `docs/OBSERVER.md`, "What isn't judged".
+/// Source: `docs/WATCH.md`, "What isn't judged".
 #[derive(Clone, Copy, Debug, PartialEq, Eq)]
 pub struct Unjudged {
     pub cause: Cause,
@@ -58,11 +58,11 @@ pub struct Unjudged {
 
 /// Of each agent the number of its last flit that names an id from before the trace, and so may have been of any line; 0 where
 /// there is none.
-/// Source: `docs/OBSERVER.md`, "A trace that begins in the middle".
+/// Source: `docs/WATCH.md`, "What isn't judged".
 pub type Strays = [u64; 32];
 
 /// A line whose trace begins in the middle.
-/// Source: `docs/OBSERVER.md`, "A trace that begins in the middle".
+/// Source: `docs/WATCH.md`, "What isn't judged".
 #[derive(Drop)]
 pub struct BegunLine {
     pub begun: Begun,
@@ -71,7 +71,7 @@ pub struct BegunLine {
 }
 
 /// What judges the flits of a cache line.
-/// Source: `docs/OBSERVER.md`, "A trace of many lines".
+/// Source: `docs/WATCH.md`, "What a line is told".
 #[derive(Drop)]
 pub enum Judge<A: Allocator> {
     /// From the trace's beginning.
@@ -150,7 +150,7 @@ fn take_begun(line: &mut Begun, flit: &Flit) -> Result<(), Reason>
 }
 
 impl<A: Allocator> Judge<A> {
-    /// That of a line which no flit has touched before the one with this number.
+    /// The judge of a line which no flit has touched before the one with this number.
     pub(crate) fn new(
         alloc: A,
         start: Start,
@@ -208,6 +208,7 @@ impl<A: Allocator> Judge<A> {
     {
         match told {
             Told::Flit(flit) => self.take_flit(flit, number, strays),
+            Told::Nothing => Verdict::Judged,
             Told::Unjudged(cause) => {
                 self.set_aside(*cause, number);
                 Verdict::Unjudged

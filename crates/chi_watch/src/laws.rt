@@ -4,7 +4,7 @@ ghost use Rattle.chi_watch.specs.Logs.{JudgedIsLegal, LegalIsJudged, TailIsJudge
 
 /// The law of a line's flits: whatever comes to a line while there is room, its judge has been told exactly its flits before the first
 /// one that lacks words, in the order of their first beats, each once and with all its words; and that one waits with those behind it.
-/// Source: `docs/OBSERVER.md`, "Data in beats".
+/// Source: `docs/WATCH.md`, "Data in beats".
 pub fn told_in_order()
     ensures { ToldInOrder }
 {}

@@ -1,6 +1,7 @@
-//! The cache lines of a trace: what judges the flits of each, and the flits that wait for words of data.
+//! A trace of flits, judged as it comes: its ids and credits, its nodes, and each flit at its place in its cache line, where flits wait
+//! behind data in beats that lack words.
 //!
-//! Source: `docs/OBSERVER.md`, "A trace of many lines".
+//! Source: `docs/WATCH.md`, "What a line is told".
 #![tactic(auto)]
 
 mod beats;

@@ -18,7 +18,7 @@ use std::alloc::{AllocError, Allocator};
 use std::hash::{BuildHasherDefault, FoldHasher};
 
 /// A fault of a cache line.
-/// Source: `docs/OBSERVER.md`, "Why a flit isn't taken".
+/// Source: `docs/WATCH.md`, "What isn't judged".
 #[derive(Clone, Copy, Debug, PartialEq, Eq)]
 pub struct LineFault {
     /// The number of the flit that is a fault: of data that come in beats that of the first one.
@@ -27,7 +27,7 @@ pub struct LineFault {
 }
 
 /// How many flits were judged by a call, or passed unjudged.
-/// Source: `docs/OBSERVER.md`, "What isn't judged".
+/// Source: `docs/WATCH.md`, "What isn't judged".
 #[derive(Clone, Copy, Debug, PartialEq, Eq)]
 pub struct Tally {
     /// How many the line's judge took.
@@ -37,7 +37,7 @@ pub struct Tally {
 }
 
 /// What came of what a line was told of by a call; what waits is in none of these.
-/// Source: `docs/OBSERVER.md`, "What isn't judged".
+/// Source: `docs/WATCH.md`, "What isn't judged".
 #[derive(Clone, Copy, Debug, PartialEq, Eq)]
 pub struct Drained {
     /// Of flits.
@@ -49,14 +49,14 @@ pub struct Drained {
 }
 
 /// A cache line that flits have touched.
-/// Source: `docs/OBSERVER.md`, "A trace of many lines".
+/// Source: `docs/WATCH.md`, "What a line is told".
 #[derive(Drop)]
 pub struct LineSeen<A: Allocator> {
     /// The home of its first flit.
     pub home: NodeId,
     /// What judges its flits.
     pub judge: Judge<A>,
-    /// Its flits that wait for words of data.
+    /// The flits that wait for words of data.
     pub held: Held<A>,
 }
 
@@ -261,7 +261,7 @@ impl<A: Allocator> LineSeen<A> {
 }
 
 /// The lines of a trace's flits.
-/// Source: `docs/OBSERVER.md`, "A trace of many lines".
+/// Source: `docs/WATCH.md`, "What a line is told".
 #[derive(Drop)]
 pub struct Lines<A: Allocator> {
     table: LineTable<A>,
@@ -314,7 +314,8 @@ fn join_in<A: Allocator>(
     number: u64,
     is_last: bool,
 ) -> Drained
-    ensures { IsJoined (lines_by before.now table.old.entries) (lines_by before.now table.new.entries) line id beat.now number is_last result }
+    ensures { IsJoined (lines_by before.now table.old.entries) (lines_by before.now table.new.entries)
+        line id beat.now number is_last result }
 {
     match table.get_mut(&line.address()) {
         Some(seen) => seen.join(id, beat, number, is_last, &before.strays),
@@ -324,7 +325,7 @@ fn join_in<A: Allocator>(
 
 impl<A: Allocator + Copy> Lines<A> {
     /// The lines of a trace that begins so, before its first flit.
-    /// Source: `docs/OBSERVER.md`, "A trace of many lines".
+    /// Source: `docs/WATCH.md`, "What a line is told".
     pub fn new(alloc: A, start: Start, stores: Stores) -> Lines<A>
         ensures { lines result ≡ no_lines start stores }
     {
@@ -341,7 +342,7 @@ impl<A: Allocator + Copy> Lines<A> {
     /// Takes a flit of a line that is whole, or is the first beat of its data: it waits behind those of the line that lack words,
     /// and each that no word and no other before it lacks is judged at its place. A line is of the home of its first flit. Err
     /// where memory runs out, and nothing changes.
-    /// Source: `docs/OBSERVER.md`, "Data in beats".
+    /// Source: `docs/WATCH.md`, "Data in beats".
     pub fn arrive(
         &mut self,
         line: CacheLine,
@@ -355,7 +356,7 @@ impl<A: Allocator + Copy> Lines<A> {
 
     /// Takes a later beat of data of a line, which brings words to the first of its flits that awaits beats of this id; what no
     /// longer waits is judged. `number` is that of the beat, and `is_last` says that no word lacks behind it.
-    /// Source: `docs/OBSERVER.md`, "Data in beats".
+    /// Source: `docs/WATCH.md`, "Data in beats".
     pub fn join(
         &mut self,
         line: CacheLine,
@@ -378,7 +379,7 @@ impl<A: Allocator + Copy> Lines<A> {
     }
 
     /// A flit of an agent, with this number, names an id from before the trace, and so may have been of any line.
-    /// Source: `docs/OBSERVER.md`, "A trace that begins in the middle".
+    /// Source: `docs/WATCH.md`, "What isn't judged".
     pub fn stray(&mut self, agent: Agent, number: u64)
         ensures { lines self.new ≡ strayed agent number (lines self.old) }
     {
@@ -420,7 +421,7 @@ impl<A: Allocator + Copy> Lines<A> {
     }
 
     /// The home of the line's first flit; none of a line that no flit has touched.
-    /// Source: `docs/OBSERVER.md`, "A trace of many lines".
+    /// Source: `docs/WATCH.md`, "What a line is told".
     pub fn home_of(&self, line: CacheLine) -> Option<NodeId>
         ensures { result ≡ home_of (lines self.now) line }
     {
@@ -431,7 +432,7 @@ impl<A: Allocator + Copy> Lines<A> {
     }
 
     /// Why the line isn't judged, and since when; none of one that is judged, or that no flit has touched.
-    /// Source: `docs/OBSERVER.md`, "What isn't judged".
+    /// Source: `docs/WATCH.md`, "What isn't judged".
     pub fn unjudged(&self, line: CacheLine) -> Option<Unjudged>
         ensures { result ≡ unjudged_of (lines self.now) line }
     {
@@ -442,7 +443,7 @@ impl<A: Allocator + Copy> Lines<A> {
     }
 
     /// How many flits of the line wait for words of data.
-    /// Source: `docs/OBSERVER.md`, "Data in beats".
+    /// Source: `docs/WATCH.md`, "Data in beats".
     pub fn waiting(&self, line: CacheLine) -> usize
         ensures { result ≡ waiting_of (lines self.now) line }
     {
@@ -453,7 +454,7 @@ impl<A: Allocator + Copy> Lines<A> {
     }
 
     /// What is known of a line; `None` of one that no flit has touched.
-    /// Source: `docs/OBSERVER.md`, "Why a flit isn't taken".
+    /// Source: `docs/WATCH.md`, "What isn't judged".
     pub fn line(&self, line: CacheLine) -> Option<&LineSeen<A>>
         ensures { option_map (λ seen. line_state seen.now) result ≡ (lines self.now).at line.address }
     {
@@ -461,7 +462,7 @@ impl<A: Allocator + Copy> Lines<A> {
     }
 
     /// How many lines flits have touched.
-    /// Source: `docs/OBSERVER.md`, "What is printed".
+    /// Source: `docs/WATCH.md`, "What isn't judged".
     pub fn count(&self) -> usize
         ensures { result ≡ length self.now.table.entries }
     {
@@ -469,7 +470,7 @@ impl<A: Allocator + Copy> Lines<A> {
     }
 
     /// The address of the line that was touched first after so many others, and what is known of it; `None` where there is none.
-    /// Source: `docs/OBSERVER.md`, "What isn't judged".
+    /// Source: `docs/WATCH.md`, "What isn't judged".
     pub fn line_at(&self, place: usize) -> Option<(u64, &LineSeen<A>)>
         ensures { option_map row_state result ≡ option_map entry_state (slice_get self.now.table.entries place) }
     {

@@ -11,7 +11,7 @@ use std::alloc::{AllocError, Allocator};
 use std::hash::{BuildHasherDefault, FoldHasher};
 
 /// What a node is in a trace.
-/// Source: `docs/OBSERVER.md`, "A trace of many lines".
+/// Source: `docs/WATCH.md`, "Nodes".
 #[derive(Clone, Copy, Debug, PartialEq, Eq)]
 pub enum Side {
     /// A requester, which is this agent.
@@ -24,7 +24,7 @@ pub enum Side {
 type SideTable<A> = IndexMap<u16, Side, BuildHasherDefault<FoldHasher>, A>;
 
 /// The nodes of a trace that are known.
-/// Source: `docs/OBSERVER.md`, "A trace of many lines".
+/// Source: `docs/WATCH.md`, "Nodes".
 #[derive(Drop)]
 pub struct Nodes<A: Allocator> {
     sides: SideTable<A>,
@@ -73,7 +73,7 @@ fn settled_by(requester: Option<Side>, home: Option<Side>) -> Option<Agent>
 
 impl<A: Allocator + Copy> Nodes<A> {
     /// No node is known.
-    /// Source: `docs/OBSERVER.md`, "A trace of many lines".
+    /// Source: `docs/WATCH.md`, "Nodes".
     pub fn new(alloc: A) -> Nodes<A>
         ensures { nodes result ≡ no_nodes }
     {
@@ -94,7 +94,7 @@ impl<A: Allocator> Nodes<A> {
 
     /// The agent that a requester is: the next one where it is new. `None` where it is a home, or the home is a requester, or there
     /// are 32 before it.
-    /// Source: `docs/OBSERVER.md`, "A trace of many lines".
+    /// Source: `docs/WATCH.md`, "Nodes".
     pub fn agent_of(&self, requester: NodeId, home: NodeId) -> Option<Agent>
         ensures { result ≡ agent_of (nodes self.now) requester home }
     {
@@ -143,7 +143,7 @@ impl<A: Allocator> Nodes<A> {
 
     /// The agent that a requester is, as `agent_of` has it. Where it is one, it and the home are known from now on. Err where memory
     /// runs out; what is known then isn't said.
-    /// Source: `docs/OBSERVER.md`, "A trace of many lines".
+    /// Source: `docs/WATCH.md`, "Nodes".
     pub fn number(&mut self, requester: NodeId, home: NodeId) -> Result<Option<Agent>, AllocError>
         ensures agent { IfOk result (λ agent. agent ≡ agent_of (nodes self.old) requester home) }
         ensures known { OnOk result (nodes self.new ≡ known requester home (nodes self.old)) }
@@ -161,7 +161,7 @@ impl<A: Allocator> Nodes<A> {
     }
 
     /// The requesters, by their agents.
-    /// Source: `docs/OBSERVER.md`, "What is told to be open".
+    /// Source: `docs/WATCH.md`, "Nodes".
     pub fn requesters(&self) -> &[NodeId]
         ensures { result.now ≡ (nodes self.now).requesters }
     {

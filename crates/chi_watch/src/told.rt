@@ -4,12 +4,12 @@ use chi_issue_b::Opcode;
 use chi_observer::Flit;
 
 /// Why the flits of a cache line aren't judged from one on.
-/// Source: `docs/OBSERVER.md`, "What isn't judged".
+/// Source: `docs/WATCH.md`, "What isn't judged".
 #[derive(Clone, Copy, Debug, PartialEq, Eq)]
 pub enum Cause {
     /// The rules of a line have no row for its RESP, or for its opcode, which is this one.
     Opcode(Opcode),
-    /// Its requester is a home, or its home a requester, or there were 32 requesters before it.
+    /// The requester is a home, or the home a requester, or there were 32 requesters before.
     Node,
     /// As many flits of the line wait for words of data as may.
     Crowded,
@@ -18,12 +18,14 @@ pub enum Cause {
 }
 
 /// What a cache line is told of.
-/// Source: `docs/OBSERVER.md`, "A trace of many lines".
+/// Source: `docs/WATCH.md`, "What a line is told".
 #[derive(Clone, Copy, Debug, PartialEq, Eq)]
 pub enum Told {
     /// A flit that the rules of a line judge.
     Flit(Flit),
-    /// One that they don't, for this cause.
+    /// One that tells nothing of copies.
+    Nothing,
+    /// One that they don't judge, for this cause.
     Unjudged(Cause),
     /// One of another home than the line's.
     OtherHome,

@@ -43,6 +43,10 @@ enum Wanted {
 
 const READ_SHARED: Opcode = Opcode::Req(RequestOpcode::ReadShared);
 
+const READ_ONCE: Opcode = Opcode::Req(RequestOpcode::ReadOnce);
+
+const READ_RECEIPT: Opcode = Opcode::Rsp(ResponseOpcode::ReadReceipt);
+
 const READ_UNIQUE: Opcode = Opcode::Req(RequestOpcode::ReadUnique);
 
 const ATOMIC_LOAD: Opcode = Opcode::Req(RequestOpcode::AtomicLoad);
@@ -55,6 +59,8 @@ const SNP_RESP_DATA: Opcode = Opcode::Dat(DataOpcode::SnpRespData);
 
 const COMP_ACK: Opcode = Opcode::Rsp(ResponseOpcode::CompAck);
 
+const I: Option<Resp> = Some(Resp::I);
+
 const I_PD: Option<Resp> = Some(Resp::IPD);
 
 const SC: Option<Resp> = Some(Resp::SC);
@@ -62,9 +68,9 @@ const SC: Option<Resp> = Some(Resp::SC);
 const UC: Option<Resp> = Some(Resp::UC);
 
 /// Two reads, with a snoop whose data come in beats, and an id that isn't open; then a home that gives away what it hasn't got back, and
-/// an opcode that the rules haven't, of another line.
+/// an opcode that the rules haven't, of another line; then a ReadOnce with a receipt and a CompAck, which tell nothing of copies.
 #[rattlefmt::skip]
-const ROWS: [Row; 14] = [
+const ROWS: [Row; 18] = [
     (READ_UNIQUE,   8, 64, 1, Some(0x1040), None,       None, 0,    0, Wanted::Judged(1)),
     (COMP_DATA,     64, 8, 1, None,         Some(0x11), UC,   0xff, 7, Wanted::Judged(1)),
     (COMP_ACK,      8, 64, 0x11, None,      None,       None, 0,    0, Wanted::Judged(1)),
@@ -79,6 +85,10 @@ const ROWS: [Row; 14] = [
     (READ_UNIQUE,   8, 64, 1, Some(0x1040), None,       None, 0,    0, Wanted::Judged(1)),
     (COMP_DATA,     64, 8, 1, None,         Some(0x11), UC,   0xff, 9, Wanted::Fault(13)),
     (ATOMIC_LOAD,   8, 64, 3, Some(0x1080), None,       None, 0,    0, Wanted::Unjudged(1)),
+    (READ_ONCE,     9, 64, 4, Some(0x10c0), None,       None, 0,    0, Wanted::Judged(1)),
+    (READ_RECEIPT,  64, 9, 4, None,         None,       None, 0,    0, Wanted::Judged(1)),
+    (COMP_DATA,     64, 9, 4, None,         Some(0x21), I,    0xff, 7, Wanted::Judged(1)),
+    (COMP_ACK,      9, 64, 0x21, None,      None,       None, 0,    0, Wanted::Judged(1)),
 ];
 
 /// The flit of a row.

@@ -21,7 +21,7 @@ use chi_transactions::{
 use std::alloc::{AllocError, Allocator};
 
 /// What a trace is judged for.
-/// Source: `docs/OBSERVER.md`, "What is printed".
+/// Source: `docs/WATCH.md`, "What isn't judged".
 #[derive(Clone, Copy, Debug, PartialEq, Eq)]
 pub struct Settings {
     /// Which types of credit it has.
@@ -35,7 +35,7 @@ pub struct Settings {
 }
 
 /// What came of a flit that ids and credits allow.
-/// Source: `docs/OBSERVER.md`, "What isn't judged".
+/// Source: `docs/WATCH.md`, "What isn't judged".
 #[derive(Clone, Copy, Debug, PartialEq, Eq)]
 pub struct Watched {
     /// What it is of.
@@ -45,7 +45,7 @@ pub struct Watched {
 }
 
 /// A trace of flits, as far as it was seen.
-/// Source: `docs/OBSERVER.md`, "A trace of many lines".
+/// Source: `docs/WATCH.md`, "What a line is told".
 #[derive(Drop)]
 pub struct Watch<A: Allocator> {
     transactions: Transactions<A>,
@@ -54,7 +54,7 @@ pub struct Watch<A: Allocator> {
 }
 
 /// Why a trace isn't watched any further.
-/// Source: `docs/OBSERVER.md`, "Why a flit isn't taken".
+/// Source: `docs/WATCH.md`, "What isn't judged".
 #[derive(Clone, Copy, Debug, PartialEq, Eq)]
 pub enum WatchStop {
     /// Ids or credits don't allow the flit, and nothing has changed.
@@ -72,7 +72,7 @@ fn is_unknown(start: Start) -> bool
 
 impl<A: Allocator + Copy> Watch<A> {
     /// A trace that is judged for this, before its first flit.
-    /// Source: `docs/OBSERVER.md`, "A trace of many lines".
+    /// Source: `docs/WATCH.md`, "What a line is told".
     pub fn new(alloc: A, settings: Settings) -> Watch<A>
         ensures { IsNew settings result }
     {
@@ -120,7 +120,7 @@ impl<A: Allocator + Copy> Watch<A> {
     /// Takes the next flit of the trace, which has this number, counted from 1, and these words of data, if it has data. Err where ids
     /// and credits don't allow it, and nothing changes; or where memory runs out. Where they do, its line is told of it, and the
     /// answer has the first fault that is met there, which may be of a flit before it that waited.
-    /// Source: `docs/OBSERVER.md`, "A trace of many lines".
+    /// Source: `docs/WATCH.md`, "What a line is told".
     pub fn take(&mut self, flit: &Flit, beat: &Beat, number: u64) -> Result<Watched, WatchStop>
         ensures { IsWatched self.old self.new flit.now beat.now number result }
     {
@@ -166,8 +166,8 @@ impl<A: Allocator + Copy> Watch<A> {
         ensures ids { self.new.transactions ≡ self.old.transactions }
     {
         match named.beat {
-            Portion::Whole => self.arrive(named.line, flit, beat, None, number),
-            Portion::First => self.arrive(named.line, flit, beat, Some(named.since), number),
+            Portion::Whole => self.arrive(named, flit, beat, None, number),
+            Portion::First => self.arrive(named, flit, beat, Some(named.since), number),
             Portion::Further => Ok(self.go_on(named, beat, number, false)),
             Portion::Last => Ok(self.go_on(named, beat, number, true)),
         }
@@ -176,20 +176,20 @@ impl<A: Allocator + Copy> Watch<A> {
     /// Tells the line of a flit that is whole, or whose other words are to come by this id.
     fn arrive(
         &mut self,
-        line: CacheLine,
+        named: &Named,
         flit: &Flit,
         beat: &Beat,
         awaited: Option<u64>,
         number: u64,
     ) -> Result<Drained, AllocError>
         ensures told { IfOk result (λ done.
-            IsComing (parts self.old) (parts self.new) line flit.now beat.now awaited number done) }
+            IsComing (parts self.old) (parts self.new) named.now flit.now beat.now awaited number done) }
         ensures ids { self.new.transactions ≡ self.old.transactions }
     {
         let home = home_of(flit);
         let agent = self.nodes.number(requester_of(flit), home)?;
-        let held = held_by(told_of(flit, agent, &beat.words), awaited, number);
-        self.lines.arrive(line, home, &held)
+        let held = held_by(told_of(flit, named.of, agent, &beat.words), awaited, number);
+        self.lines.arrive(named.line, home, &held)
     }
 
     /// Tells the line of a later beat.
@@ -212,7 +212,7 @@ impl<A: Allocator + Copy> Watch<A> {
     }
 
     /// Takes a load or a store of a requester's processor, with this number. Err where memory runs out.
-    /// Source: `docs/OBSERVER.md`, "A trace of many lines".
+    /// Source: `docs/WATCH.md`, "What a line is told".
     pub fn access(
         &mut self,
         requester: NodeId,
@@ -253,7 +253,7 @@ impl<A: Allocator + Copy> Watch<A> {
 
 impl<A: Allocator> Watch<A> {
     /// What is outstanding by ids, and the credits.
-    /// Source: `docs/OBSERVER.md`, "What is told to be open".
+    /// Source: `docs/WATCH.md`, "Nodes".
     pub fn transactions(&self) -> &Transactions<A>
         ensures { state_of result.now ≡ state_of self.now.transactions }
     {
@@ -261,7 +261,7 @@ impl<A: Allocator> Watch<A> {
     }
 
     /// The nodes that are known.
-    /// Source: `docs/OBSERVER.md`, "A trace of many lines".
+    /// Source: `docs/WATCH.md`, "What a line is told".
     pub fn nodes(&self) -> &Nodes<A>
         ensures { nodes result.now ≡ (parts self.now).nodes }
     {
@@ -269,7 +269,7 @@ impl<A: Allocator> Watch<A> {
     }
 
     /// The lines that flits have touched.
-    /// Source: `docs/OBSERVER.md`, "A trace of many lines".
+    /// Source: `docs/WATCH.md`, "What a line is told".
     pub fn lines(&self) -> &Lines<A>
         ensures { lines result.now ≡ (parts self.now).lines }
     {

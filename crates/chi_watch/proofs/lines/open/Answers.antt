@@ -1,7 +1,6 @@
 -- The line is put into the table as it is behind its first flit.
 use Rattle.std.proofs.Common.{◌≡◌, ℕ, Some, cond, nat_eq, subst}
 use Rattle.std.specs.Map.{lookup}
-use Rattle.chi_watch.specs.Lines.{line_state, opened_line}
 use Rattle.chi_watch.proofs.TableLemmas.{arrived_new, written}
 use Rattle.chi_watch.proofs.lines.open.Goals as goal
 

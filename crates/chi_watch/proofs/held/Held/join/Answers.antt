@@ -1,5 +1,5 @@
 -- The first flit that awaits the id is the one at its place.
-use Rattle.std.proofs.Common.{rules, ◌≡◌, sym, ◌∙◌}
+use Rattle.std.proofs.Common.{sym, ◌∙◌}
 use Rattle.chi_watch.specs.Held.{held_in}
 use Rattle.chi_watch.proofs.HeldLemmas.{joined_found, joined_none}
 use Rattle.chi_watch.proofs.held.Held.join.Goals as goal

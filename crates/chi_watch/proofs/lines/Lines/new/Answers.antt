@@ -1,5 +1,5 @@
 -- No line is in the table.
-use Rattle.std.proofs.Common.{rules, ◌≡◌, [], ap}
+use Rattle.std.proofs.Common.{ap}
 use Rattle.std.specs.Prelude.{replicate}
 use Rattle.chi_watch.specs.Lines.{lines_by}
 use Rattle.chi_watch.proofs.lines.Lines.new.Goals as goal
