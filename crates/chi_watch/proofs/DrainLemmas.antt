@@ -71,7 +71,7 @@ tally_more (verdicts.Fault reason) t = omega arith
 pub more : (v : Verdict) (flit : HeldFlit) (done : Drained) → total (counted v flit done) ≤ total done + 1
 more v flit done = by flit.is_access
   where
-    by : (b : Bool) → total (if b then record done { accesses = tallied v done.accesses; fault = fault_by v flit.number done.fault } else record done { flits = tallied v done.flits; fault = fault_by v flit.number done.fault }) ≤ total done + 1
+    by : (b : Bool) → total (if b then record done { accesses = tallied v done.accesses; fault = fault_by v flit.last done.fault } else record done { flits = tallied v done.flits; fault = fault_by v flit.last done.fault }) ≤ total done + 1
     by true = omega (arith, tally_more v done.accesses)
     by false = omega (arith, tally_more v done.flits)
 

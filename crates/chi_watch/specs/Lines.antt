@@ -61,8 +61,8 @@ fault_by other number first = first
 
 abbrev pub counted : Verdict → HeldFlit → Drained → Drained
 counted verdict flit done =
-    if flit.is_access then record done { accesses = tallied verdict done.accesses; fault = fault_by verdict flit.number done.fault }
-    else record done { flits = tallied verdict done.flits; fault = fault_by verdict flit.number done.fault }
+    if flit.is_access then record done { accesses = tallied verdict done.accesses; fault = fault_by verdict flit.last done.fault }
+    else record done { flits = tallied verdict done.flits; fault = fault_by verdict flit.last done.fault }
 
 -- all that are counted
 abbrev pub total : Drained → ℕ

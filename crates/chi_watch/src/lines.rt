@@ -21,7 +21,7 @@ use std::hash::{BuildHasherDefault, FoldHasher};
 /// Source: `docs/WATCH.md`, "What isn't judged".
 #[derive(Clone, Copy, Debug, PartialEq, Eq)]
 pub struct LineFault {
-    /// The number of the flit that is a fault: of data that come in beats that of the first one.
+    /// The number of the flit that is a fault: of data that come in beats that of the last one, with which they are judged.
     pub number: u64,
     pub reason: LineReason,
 }
@@ -130,7 +130,7 @@ impl Drained {
         requires { total self.old < 2 ^ 63 }
         ensures { self.new ≡ counted verdict flit.now self.old }
     {
-        self.fault = fault_by(verdict, flit.number, self.fault);
+        self.fault = fault_by(verdict, flit.last, self.fault);
         if flit.is_access {
             self.accesses.count(verdict);
         } else {

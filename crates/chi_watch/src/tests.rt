@@ -123,7 +123,7 @@ const TWO: [Step; 8] = [
     (COMP_ACK,      0, Has::All,         &OLD, 1, 0, None),
 ];
 
-/// A fault that is met when the beats end is that of the first one, and nothing behind it is judged.
+/// A fault that is met when the beats end has the number of the last one, and nothing behind it is judged.
 #[rattlefmt::skip]
 const FAULT: [Step; 8] = [
     (READ_SHARED,   0, Has::All,         &OLD, 1, 0, None),
@@ -132,7 +132,7 @@ const FAULT: [Step; 8] = [
     (READ_SHARED,   1, Has::All,         &OLD, 1, 0, None),
     (SHARED,        1, Has::Low(4),      &OLD, 0, 0, None),
     (COMP_ACK,      1, Has::All,         &OLD, 0, 0, None),
-    (Coming::Later, 1, Has::HighLast(4), &NEW, 0, 1, Some((5, OTHER_WORDS))),
+    (Coming::Later, 1, Has::HighLast(4), &NEW, 0, 1, Some((7, OTHER_WORDS))),
     (READ_SHARED,   2, Has::All,         &OLD, 0, 1, None),
 ];
 
