@@ -11,9 +11,9 @@ use chi_issue_b::{Channel, DataOpcode, Opcode, RequestOpcode, ResponseOpcode};
 pub(crate) enum Need {
     /// The column isn't read.
     Unread,
-    /// It is there.
+    /// The column has a word of its own sort.
     Value,
-    /// It is there, or `-` stands in its place.
+    /// The column has a word of its own sort, or `-`.
     OrDash,
     /// Of DBID: as `OrDash` where RESP is UC, and else as `Unread`.
     OfUnique,

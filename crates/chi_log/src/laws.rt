@@ -11,5 +11,6 @@ ghost use Rattle.chi_log.specs.declared.rows.Row.{Row as RowOf};
 /// No column is wrong of a line that is read: so a column that is told is told of no right line.
 /// Source: `docs/TRACES.md`, "Traces".
 pub fn right_lines_have_no_wrong_column()
-    ensures { (options : OptionsOf) → (row : RowOf) → (read : ReadOf) → read_of options row ≡ Some read → find (is_wrong options row) COLUMNS ≡ None }
+    ensures { (options : OptionsOf) → (row : RowOf) → (read : ReadOf)
+        → read_of options row ≡ Some read → find (is_wrong options row) COLUMNS ≡ None }
 {}

@@ -27,9 +27,9 @@ pub const MOST_LINE_BYTES: usize = 4_096;
 pub enum Malformed {
     /// The bytes are those of a compressed file.
     Gzip,
-    /// It has more than `MOST_LINE_BYTES` bytes.
+    /// The line has more than `MOST_LINE_BYTES` bytes.
     LongLine,
-    /// It has words, and fewer than eleven.
+    /// The line has words, and fewer than eleven.
     FewWords,
     /// The word of this column is wrong, and of none before it: CH and OPCODE, and then the others in their order.
     BadWord(LineColumn),

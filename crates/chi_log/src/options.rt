@@ -4,7 +4,7 @@
 /// Source: `docs/TRACES.md`, "Other opcodes".
 #[derive(Clone, Copy, Debug, PartialEq, Eq)]
 pub enum Opcodes {
-    /// Those of Issue B.
+    /// The opcodes of Issue B.
     IssueB,
     /// A design's own too: words of letters and digits, a capital first.
     Any,
